@@ -1,0 +1,3 @@
+-- The theorems of ownership.
+pub mod Carried
+pub mod Examples

@@ -1,0 +1,1 @@
+// No code: who owns a triangle.

@@ -1,0 +1,6 @@
+-- The plane as document 01 speaks of it: points, ordered pairs and triangles, cutting edges, boundaries, members.
+pub mod Points
+pub mod Cuts
+pub mod Boundaries
+pub mod Members
+pub mod Corners

@@ -1,0 +1,5 @@
+-- The theorems of the triangle table.
+pub mod Sets
+pub mod Frame
+pub mod Connected
+pub mod Rules

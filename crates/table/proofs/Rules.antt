@@ -1,0 +1,162 @@
+-- The check of a table passes exactly if rules A, B and C hold.
+-- The idea for rule B: a side repeats exactly if it stands twice among all sides, since a triangle with an area has three different
+-- sides; so the sides of the earlier triangles and of those to come are counted together. Assumes nothing.
+use mathlib.Core.Path.{_≡_, refl, sym, _∙_, ap, subst}
+use mathlib.Core.Logic.{_↔_}
+use mathlib.Core.Bool.{Bool, true, false, not, cond}
+use mathlib.Core.List.{List, [], _∷_, flatMap}
+use mathlib.Core.Option.{Option, none, some}
+use Prim.Native.Nat.{ℕ, suc, _+_, _≤_}
+use native.Mathlib.Omega.{arith}
+use native.Mathlib.Decide.{decLe}
+use lib.Dec.{T, T-not}
+use lib.IntN.{pos}
+use lib.ListN.{length}
+use lib.Signed.{ltZ, _<ℤ_, ltZ-yes, <ℤ-irrefl}
+use Rattle.whole.specs.Sums.{All, any, bit, count}
+use Rattle.whole.specs.Polynomials.{con, _:-_, _:*_, _:=_}
+use Rattle.whole.proofs.Ring.{solve}
+use Rattle.whole.proofs.Sums.{count-++, counted, not-counted, all-counted, all-map, none-any}
+use Rattle.plane.specs.Points.{Point, Edge, Triangle, _⟶_, sides, sameEdge, turn, double}
+use Rattle.plane.specs.Cuts.{allPieces}
+use Rattle.plane.specs.Boundaries.{agree, sidesOf}
+use Rattle.plane.specs.Members.{edges}
+use Rattle.plane.proofs.Points.{sameEdge-eq, sameEdge-refl}
+use Rattle.plane.proofs.Boundaries.{agree-is}
+use Rattle.table.specs.Table.{corners, frame, RuleA, RuleB, RuleC, passed, refused, firstFault, flat, repeats, refuse, checkTable}
+
+-- No member fails the test that also sees those before it.
+abbrev pub NoFault : {A : Type 0} → (List A → A → Bool) → List A → List A → Type 0
+NoFault bad before [] = Unit {0}
+NoFault bad before (a ∷ l) = (T (bad before a) → ⊥) × NoFault bad (a ∷ before) l
+
+pub no-fault : {A : Type 0} (bad : List A → A → Bool) (before l : List A) → (firstFault bad before l ≡ none) ↔ NoFault bad before l
+no-fault bad before [] = (λ e. tt, λ h. refl)
+no-fault bad before (a ∷ l) = go (bad before a) (no-fault bad (a ∷ before) l)
+  where
+    go : (b : Bool) → (firstFault bad (a ∷ before) l ≡ none) ↔ NoFault bad (a ∷ before) l
+        → (_≡_ {A = Option ℕ} (elim b [ true ↦ some (suc (length before)) | false ↦ firstFault bad (a ∷ before) l ]) none) ↔ ((T b → ⊥) × NoFault bad (a ∷ before) l)
+    go true r = (λ e. absurd (let z : _≡_ {A = ℕ} 0 1 = cc in omega arith), λ h. absurd (h .0 tt))
+    go false r = (λ e. (λ t. t, r .0 e), λ h. r .1 (h .1))
+
+-- ---- rule A
+pub rule-A : (before l : List Triangle) → NoFault flat before l ↔ RuleA l
+rule-A before [] = (λ h. tt, λ h. tt)
+rule-A before (t ∷ l) = (
+  λ h. (ltZ-yes (positive (ltZ (pos 0) (double t)) (h .0)), rule-A (t ∷ before) l .0 (h .1)),
+  λ h. (λ n. T-not (ltZ (pos 0) (double t)) n (h .0 .lt), rule-A (t ∷ before) l .1 (h .1)),
+)
+  where
+    positive : (b : Bool) → (T (not b) → ⊥) → T b
+    positive true f = tt
+    positive false f = f tt
+
+-- ---- rule B
+turn-same : (a c : Point) → turn a a c ≡ pos 0
+unfolding turn
+turn-same a c = solve 4 (λ ax ay cx cy. (ax :- ax) :* (cy :- ay) :- (cx :- ax) :* (ay :- ay) := con (pos 0)) tt (a .x) (a .y) (c .x) (c .y)
+
+-- A triangle with an area has no side twice.
+three-sides : (t : Triangle) → pos 0 <ℤ double t → (e : Edge) → count sameEdge e (sides t) ≤ 1
+three-sides t h e = one (sameEdge ab e) (sameEdge bc e) (sameEdge ca e)
+    (λ p q. flat-out (begin (alike ab bc p q)))
+    (λ q r. flat-out (sym (begin (alike bc ca q r) ∙ end (alike bc ca q r))))
+    (λ p r. flat-out (sym (end (alike ab ca p r))))
+  where
+    ab : Edge
+    ab = t .a ⟶ t .b
+
+    bc : Edge
+    bc = t .b ⟶ t .c
+
+    ca : Edge
+    ca = t .c ⟶ t .a
+
+    alike : (x y : Edge) → T (sameEdge x e) → T (sameEdge y e) → x ≡ y
+    alike x y p q = sameEdge-eq x e p ∙ sym (sameEdge-eq y e q)
+
+    begin : {x y : Edge} → x ≡ y → x .from ≡ y .from
+    begin q = λ i. q i .from
+
+    end : {x y : Edge} → x ≡ y → x .to ≡ y .to
+    end q = λ i. q i .to
+
+    flat-out : t .a ≡ t .b → ⊥
+    flat-out q = <ℤ-irrefl (subst (λ z. pos 0 <ℤ z) (ap (λ b. turn (t .a) b (t .c)) (sym q) ∙ turn-same (t .a) (t .c)) h)
+
+    one : (p q r : Bool) → (T p → T q → ⊥) → (T q → T r → ⊥) → (T p → T r → ⊥) → bit p + (bit q + (bit r + 0)) ≤ 1
+    one true true r f g h = absurd (f tt tt)
+    one true false true f g h = absurd (h tt tt)
+    one true false false f g h = omega arith
+    one false true true f g h = absurd (g tt tt)
+    one false true false f g h = omega arith
+    one false false true f g h = omega arith
+    one false false false f g h = omega arith
+
+-- How often an ordered pair is a side of the earlier triangles and of those to come.
+abbrev sided : Edge → List Triangle → List Triangle → ℕ
+sided e before l = count sameEdge e (sidesOf before) + count sameEdge e (sidesOf l)
+
+sided-more : (e : Edge) (t : Triangle) (l : List Triangle) → count sameEdge e (sidesOf (t ∷ l)) ≡ count sameEdge e (sides t) + count sameEdge e (sidesOf l)
+unfolding flatMap
+sided-more e t l = count-++ sameEdge sameEdge-eq sameEdge-refl e (sides t) (flatMap sides l)
+
+-- No side of the triangle is a side of an earlier one.
+fresh : (before : List Triangle) (t : Triangle) → (T (repeats before t) → ⊥) ↔ All (λ e. count sameEdge e (sidesOf before) ≡ 0) (sides t)
+fresh before t = (
+  λ h. all-map (λ e. T (any (sameEdge e) (sidesOf before)) → ⊥) (λ e. count sameEdge e (sidesOf before) ≡ 0)
+      (λ e n. not-counted sameEdge sameEdge-eq sameEdge-refl e (sidesOf before) .0 (none-any (sameEdge e) (sidesOf before) .0 n)) (sides t) (none-any (λ e. any (sameEdge e) (sidesOf before)) (sides t) .0 h),
+  λ h. none-any (λ e. any (sameEdge e) (sidesOf before)) (sides t) .1 (all-map (λ e. count sameEdge e (sidesOf before) ≡ 0) (λ e. T (any (sameEdge e) (sidesOf before)) → ⊥)
+      (λ e n. none-any (sameEdge e) (sidesOf before) .1 (not-counted sameEdge sameEdge-eq sameEdge-refl e (sidesOf before) .1 n)) (sides t) h),
+)
+
+once-all : (before l : List Triangle) → RuleA l → NoFault repeats before l → ((e : Edge) → count sameEdge e (sidesOf before) ≤ 1) → (e : Edge) → sided e before l ≤ 1
+unfolding flatMap
+once-all before [] area h k e = omega (arith, k e)
+once-all before (t ∷ l) area h k e = omega (arith, sided-more e t before, sided-more e t l, once-all (t ∷ before) l (area .1) (h .1) (λ d. omega (arith, sided-more d t before, add d)) e)
+  where
+    add : (d : Edge) → count sameEdge d (sides t) + count sameEdge d (sidesOf before) ≤ 1
+    add d = go (decLe 1 (count sameEdge d (sides t)))
+      where
+        go : Dec (1 ≤ count sameEdge d (sides t)) → count sameEdge d (sides t) + count sameEdge d (sidesOf before) ≤ 1
+        go (yes m) = omega (arith, three-sides t (area .0) d, counted sameEdge sameEdge-eq sameEdge-refl (λ d. count sameEdge d (sidesOf before) ≡ 0) d (sides t) m (fresh before t .0 (h .0)))
+        go (no m) = omega (arith, k d)
+
+all-once : (before l : List Triangle) → ((e : Edge) → sided e before l ≤ 1) → NoFault repeats before l
+unfolding flatMap
+all-once before [] h = tt
+all-once before (t ∷ l) h = (
+  fresh before t .1 (all-map (λ e. 1 ≤ count sameEdge e (sides t)) (λ e. count sameEdge e (sidesOf before) ≡ 0) (λ e m. omega (arith, h e, sided-more e t l)) (sides t) (all-counted sameEdge sameEdge-eq sameEdge-refl (sides t))),
+  all-once (t ∷ before) l (λ e. omega (arith, h e, sided-more e t before, sided-more e t l)),
+)
+
+pub rule-B : (table : List Triangle) → RuleA table → NoFault repeats [] table ↔ RuleB table
+unfolding flatMap
+rule-B table area = (λ h e. omega (arith, once-all [] table area h (λ d. omega arith) e), λ h. all-once [] table (λ e. omega (arith, h e)))
+
+-- ---- all three
+pub passes : (table : List Triangle) → (checkTable table ≡ passed) ↔ (RuleA table × RuleB table × RuleC table)
+unfolding checkTable
+passes table = (
+  λ e. to (firstFault flat [] table) refl (firstFault repeats [] table) refl _ refl e,
+  λ h. from h,
+)
+  where
+    rest : Bool
+    rest = agree (sidesOf table) (allPieces (corners table) (edges (frame (corners table))))
+
+    to : (a : Option ℕ) → firstFault flat [] table ≡ a → (b : Option ℕ) → firstFault repeats [] table ≡ b → (c : Bool) → rest ≡ c
+        → refuse 10 a (refuse 11 b (cond c passed (refused 12 0))) ≡ passed → RuleA table × RuleB table × RuleC table
+    to none p none q true r e =
+        let a = rule-A [] table .0 (no-fault flat [] table .0 p) in
+        (a, rule-B table a .0 (no-fault repeats [] table .0 q), agree-is _ _ .0 (subst T (sym r) tt))
+    to none p none q false r e = absurd (let z : _≡_ {A = ℕ} 0 1 = cc in omega arith)
+    to none p (some k) q c r e = absurd (let z : _≡_ {A = ℕ} 0 1 = cc in omega arith)
+    to (some k) p b q c r e = absurd (let z : _≡_ {A = ℕ} 0 1 = cc in omega arith)
+
+    from : RuleA table × RuleB table × RuleC table → refuse 10 (firstFault flat [] table) (refuse 11 (firstFault repeats [] table) (cond rest passed (refused 12 0))) ≡ passed
+    from h = rw (no-fault flat [] table .1 (rule-A [] table .1 (h .0)), no-fault repeats [] table .1 (rule-B table (h .0) .1 (h .1))) (go rest (agree-is _ _ .1 (h .2)))
+      where
+        go : (c : Bool) → T c → cond c passed (refused 12 0) ≡ passed
+        go true t = refl
+        go false t = absurd t

@@ -1,0 +1,84 @@
+-- The triangle table: corners, frame, and the three table rules.
+use mathlib.Core.Bool.{Bool, true, false, not, cond}
+use mathlib.Core.List.{List, [], _∷_, flatMap}
+use mathlib.Core.Option.{Option, none, some}
+use Prim.Native.Nat.{ℕ, suc, _≤_}
+use lib.IntN.{ℤ, pos}
+use lib.ListN.{length}
+use lib.Signed.{ltZ, _<ℤ_}
+use Rattle.whole.specs.Numbers.{smaller, greater}
+use Rattle.whole.specs.Sums.{All, any, count}
+use Rattle.plane.specs.Points.{Point, Edge, Triangle, sides, sameEdge, double}
+use Rattle.plane.specs.Cuts.{allPieces}
+use Rattle.plane.specs.Boundaries.{SameBoundary, agree, sidesOf}
+use Rattle.plane.specs.Members.{edges}
+
+-- The corners of all triangles of the table.
+abbrev pub corners : List Triangle → List Point
+corners = flatMap (λ t. t .a ∷ t .b ∷ t .c ∷ [])
+
+-- The least and the greatest value of a coordinate over a first point and further ones.
+unfoldable pub least : (Point → ℤ) → Point → List Point → ℤ
+least k p [] = k p
+least k p (q ∷ l) = smaller (k p) (least k q l)
+
+unfoldable pub greatest : (Point → ℤ) → Point → List Point → ℤ
+greatest k p [] = k p
+greatest k p (q ∷ l) = greater (k p) (greatest k q l)
+
+-- The upright rectangle from (left, low) to (right, high), anticlockwise, the closing point included.
+abbrev pub rectangle : (left low right high : ℤ) → List Point
+rectangle left low right high =
+    record { x = left; y = low } ∷ record { x = right; y = low } ∷ record { x = right; y = high } ∷ record { x = left; y = high } ∷ record { x = left; y = low } ∷ []
+
+-- The frame is the smallest upright rectangle that holds all the points. (No points have none.)
+unfoldable pub frame : List Point → List Point
+frame [] = []
+frame (p ∷ l) = rectangle (least (λ q. q .x) p l) (least (λ q. q .y) p l) (greatest (λ q. q .x) p l) (greatest (λ q. q .y) p l)
+
+-- The edges l, cut at the table's corners, have the same boundary as the triangles s.
+abbrev pub Bounds : List Triangle → List Edge → List Triangle → Type 0
+Bounds table l s = SameBoundary (sidesOf s) (allPieces (corners table) l)
+
+-- Rule A. Every triangle has a double area above 0.
+abbrev pub RuleA : List Triangle → Type 0
+RuleA = All (λ t. pos 0 <ℤ double t)
+
+-- Rule B. No ordered pair is a side of two triangles: among all sides of the table each stands once at most.
+-- (One triangle has a side twice only if its corners are one point, and that breaks rule A.)
+abbrev pub RuleB : List Triangle → Type 0
+RuleB table = (e : Edge) → count sameEdge e (sidesOf table) ≤ 1
+
+-- Rule C. The set of all triangles has the anticlockwise frame as its boundary.
+abbrev pub RuleC : List Triangle → Type 0
+RuleC table = Bounds table (edges (frame (corners table))) table
+
+-- What a check of the sheet comes to: it passes, or is refused with a number and an item.
+pub data Checked : Type 0 where
+  passed : Checked
+  refused : (code item : ℕ) → Checked
+
+-- The number, counted from 1, of the first member that fails a test. The test also sees the members before it, the nearest first.
+abbrev pub firstFault : {A : Type 0} → (List A → A → Bool) → List A → List A → Option ℕ
+firstFault bad before [] = none
+firstFault bad before (a ∷ l) = elim (bad before a) [ true ↦ some (suc (length before)) | false ↦ firstFault bad (a ∷ before) l ]
+
+-- The double area of the triangle is not above 0.
+abbrev pub flat : List Triangle → Triangle → Bool
+flat before t = not (ltZ (pos 0) (double t))
+
+-- The triangle has a side of an earlier one.
+abbrev pub repeats : List Triangle → Triangle → Bool
+repeats before t = any (λ e. any (sameEdge e) (sidesOf before)) (sides t)
+
+-- A fault found is refused with that code and its triangle as the item; where there is none the check goes on.
+abbrev pub refuse : ℕ → Option ℕ → Checked → Checked
+refuse code none next = next
+refuse code (some item) next = refused code item
+
+-- The table rules in their order: 10 over all triangles, then 11, then 12.
+unfoldable pub checkTable : List Triangle → Checked
+checkTable table =
+    refuse 10 (firstFault flat [] table)
+    (refuse 11 (firstFault repeats [] table)
+    (cond (agree (sidesOf table) (allPieces (corners table) (edges (frame (corners table))))) passed (refused 12 0)))

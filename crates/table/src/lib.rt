@@ -1,0 +1,1 @@
+// No code: the rules of the triangle table, and what follows from them.

@@ -1,0 +1,5 @@
+-- What the mathematics above speaks of: equality of whole numbers, sums and counts over lists, net counts,
+-- polynomial expressions.
+pub mod Numbers
+pub mod Sums
+pub mod Polynomials
