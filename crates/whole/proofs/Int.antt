@@ -12,6 +12,7 @@ use native.Mathlib.Decide.{decLt}
 use lib.Dec.{T, ltb, ltb→lt, lt→ltb, leb→le, le→leb, nltb→le, eqb→eq, eqb-refl, T-not}
 use lib.Signed.{leZ, _≤ℤ_, _<ℤ_, leZ-yes, ltZ-yes, ≤ℤ-refl, <ℤ-irrefl}
 use Rattle.whole.specs.Numbers.{eqZ, smaller, greater}
+use Rattle.whole.proofs.Tests.{by-test}
 
 infixl 6 _⊖_
 -- The difference of two naturals; shut, so that `simp` sees the call.
@@ -27,14 +28,10 @@ abbrev pub down : ℤ → ℕ
 down (pos n) = 0
 down (negsuc n) = suc n
 
-by-test : (c : Bool) (x y : ℤ) (P : ℤ → Type 0) → (T c → P x) → (T (not c) → P y) → P (cond c x y)
-by-test true x y P f g = f tt
-by-test false x y P f g = g tt
-
 -- A difference is a natural number or the negative of one above 0.
 ⊖-is : (a b : ℕ) (P : ℤ → Type 0) → ((k : ℕ) → a ≡ b + k → P (pos k)) → ((k : ℕ) → b ≡ a + suc k → P (negsuc k)) → P (a ⊖ b)
 unfolding _⊖_
-⊖-is a b P f g = by-test (ltb a b) (negsuc (b - suc a)) (pos (a - b)) P (λ t. let h : a < b = ltb→lt a b t in g (b - suc a) (omega arith)) (λ t. let h : b ≤ a = nltb→le a b t in f (a - b) (omega arith))
+⊖-is a b P f g = by-test P (ltb a b) (negsuc (b - suc a)) (pos (a - b)) (λ t. let h : a < b = ltb→lt a b t in g (b - suc a) (omega arith)) (λ t. let h : b ≤ a = nltb→le a b t in f (a - b) (omega arith))
 
 -- z is a − b, told in naturals.
 abbrev pub Is : ℤ → ℕ → ℕ → Type 0

@@ -1,0 +1,3 @@
+-- The laws of doubles that equal whole numbers, and what the definition of a coordinate means.
+pub mod Doubles
+pub mod Meaning

@@ -1,0 +1,2 @@
+-- Which doubles are coordinates, as document 01 says it.
+pub mod Coordinate

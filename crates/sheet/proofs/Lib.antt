@@ -1,0 +1,10 @@
+-- The theorems of reading.
+pub mod Run
+pub mod Sane
+pub mod Laid
+pub mod Shown
+pub mod Onward
+pub mod Finish
+pub mod Sized
+pub mod Fit
+pub mod Refusals

@@ -1,0 +1,329 @@
+// A sheet in numbers, read from bytes by steps. Each number is held as itself plus 10,000,000.
+ghost use mathlib.Core.Path.{_≡_};
+ghost use mathlib.Core.Bool.{cond};
+ghost use mathlib.Core.List.{List};
+ghost use Prim.Native.Nat.{ℕ, _+_, _≤_, _<_, _^_};
+ghost use lib.ListN.{set};
+ghost use Rattle.sheet.specs.Reading;
+ghost use Rattle.sheet.specs.Reading.{Taken, readingOf};
+ghost use Rattle.coordinate.specs.Coordinate.{coordinateOf};
+ghost use Rattle.wkb.specs.declared.Step.the-variants.{Point};
+ghost use Rattle.sheet.specs.Going.{laid, differs, Shows, Turned, Within, Ready, Leads, Safe, Onward, readOf};
+use coordinate::Coordinate;
+use wkb::Cursor;
+use wkb::Kind;
+use wkb::Slot;
+use wkb::Step;
+
+// What was read so far, beside the numbers themselves: how many there are, where the number of the open member's polygons stands among
+// them, whether the open ring's first point is still to come, and that point.
+pub struct Build {
+    pub fill: usize,
+    pub mark: usize,
+    pub first: bool,
+    pub x: u32,
+    pub y: u32,
+}
+
+// Reading goes on from a place, or is over: a code, an item, and how many numbers were read.
+pub enum Turn {
+    On(Cursor, Build),
+    Over(u32, u32, usize),
+}
+
+// How reading ends: with a sheet of so many numbers, or a refusal with its number and item.
+pub enum Ending {
+    Sheet(usize),
+    Refused(u32, u32),
+}
+
+// Stores a number where there is room for it.
+fn put(numbers: &mut [u32], at: usize, v: u32)
+    ensures { λ _. ⌜ now (numbers .exit) ≡ set (now (numbers .entry)) at v ⌝ }
+{
+    if at < numbers.len() {
+        numbers[at] = v;
+    }
+}
+
+// One number more.
+fn push(mut b: Build, v: u32, numbers: &mut [u32]) -> Build
+    requires { ⌜ b .fill + 1 < 2 ^ 64 ⌝ }
+    ensures { λ r. ⌜ (r .fill ≡ b .fill + 1) × ((t : Taken) (out : List ℕ) → Shows out t b (now (numbers .entry)) → Shows out (Reading.push v t) r (now (numbers .exit))) ⌝ }
+{
+    let at = b.fill;
+    put(numbers, at, v);
+    b.fill = at + 1;
+    b
+}
+
+// A member begins.
+fn begin(mut b: Build, numbers: &mut [u32]) -> Build
+    requires { ⌜ b .fill + 1 < 2 ^ 64 ⌝ }
+    ensures { λ r. ⌜ (r .fill ≡ b .fill + 1) × ((t : Taken) (out : List ℕ) → Shows out t b (now (numbers .entry)) → Shows out (Reading.begin t) r (now (numbers .exit))) ⌝ }
+{
+    let at = b.fill;
+    b.mark = at;
+    push(b, 10_000_000, numbers)
+}
+
+// The number of the open member's polygons so far, stored where it stands.
+fn tally(b: Build, n: u32, numbers: &mut [u32])
+    requires { ⌜ n ≤ 64 ⌝ }
+    ensures { λ _. ⌜ ((t : Taken) (out : List ℕ) → Shows out t b (now (numbers .entry)) → Shows out (Reading.tally n t) b (now (numbers .exit))) ⌝ }
+{
+    let mark = b.mark;
+    if mark < b.fill {
+        put(numbers, mark, n + 10_000_000);
+    }
+}
+
+// A polygon of the member is opened; next is the place after its header.
+fn polygon(next: Cursor, n: u32, b: Build, numbers: &mut [u32]) -> Build
+    requires { ⌜ (n ≤ 4096) × (next .polygons ≤ 64) × (b .fill + 1 < 2 ^ 64) ⌝ }
+    ensures { λ r. ⌜ (r .fill ≡ b .fill + 1) × ((t : Taken) (out : List ℕ) → Shows out t b (now (numbers .entry)) → Shows out (Reading.polygon next n t) r (now (numbers .exit))) ⌝ }
+{
+    tally(b, next.polygons, numbers);
+    push(b, n + 10_000_000, numbers)
+}
+
+// What a geometry adds that was opened at c, next being the next place.
+fn opening(
+    slot: Slot,
+    c: Cursor,
+    next: Cursor,
+    kind: u32,
+    n: u32,
+    b: Build,
+    numbers: &mut [u32],
+) -> Build
+    requires { ⌜ (n ≤ 4096) × (next .polygons ≤ 64) × (b .fill + 3 < 2 ^ 64) ⌝ }
+    ensures { λ r. ⌜ (r .fill ≤ b .fill + 3) × ((t : Taken) (out : List ℕ) → Shows out t b (now (numbers .entry)) → Shows out (Reading.opening slot c next kind n t) r (now (numbers .exit))) ⌝ }
+{
+    match slot {
+        Slot::Sheet => b,
+        Slot::Table => push(b, n + 10_000_000, numbers),
+        Slot::Piece => b,
+        Slot::Part => polygon(next, n, b, numbers),
+        Slot::Member => member(c.header, kind == Kind::POLYGON, next, n, b, numbers),
+    }
+}
+
+// What a member's geometry adds: the member may begin with it, and it may be a polygon.
+fn member(begins: bool, simple: bool, next: Cursor, n: u32, b: Build, numbers: &mut [u32]) -> Build
+    requires { ⌜ (n ≤ 4096) × (next .polygons ≤ 64) × (b .fill + 3 < 2 ^ 64) ⌝ }
+    ensures { λ r. ⌜ (r .fill ≤ b .fill + 3) × ((t : Taken) (out : List ℕ) → Shows out t b (now (numbers .entry)) → Shows out (cond simple (Reading.polygon next n (cond begins (Reading.begin t) t)) (cond begins (Reading.begin t) t)) r (now (numbers .exit))) ⌝ }
+{
+    if begins {
+        let begun = begin(b, numbers);
+        if simple {
+            return polygon(next, n, begun, numbers);
+        }
+        return begun;
+    }
+    if simple {
+        return polygon(next, n, b, numbers);
+    }
+    b
+}
+
+// What a ring's count adds.
+fn ringing(c: Cursor, n: u32, b: Build, numbers: &mut [u32]) -> Build
+    requires { ⌜ (n ≤ 4096) × (b .fill + 3 < 2 ^ 64) ⌝ }
+    ensures { λ r. ⌜ (r .fill ≤ b .fill + 3) × ((t : Taken) (out : List ℕ) → Shows out t b (now (numbers .entry)) → Shows out (Reading.ringing c n t) r (now (numbers .exit))) ⌝ }
+{
+    if c.member == 1 {
+        let mut same = b;
+        same.first = true;
+        return same;
+    }
+    let mut more = push(b, n + 10_000_000, numbers);
+    more.first = true;
+    more
+}
+
+// The point, remembered if it is the ring's first.
+fn noted(mut b: Build, x: u32, y: u32) -> Build
+    ensures { λ r. ⌜ (r .fill ≡ b .fill) × ((t : Taken) (out numbers : List ℕ) → Shows out t b numbers → Shows out (Reading.noted x y t) r numbers) ⌝ }
+{
+    if b.first {
+        b.x = x;
+        b.y = y;
+    }
+    b.first = false;
+    b
+}
+
+// Two numbers more.
+fn push_both(b: Build, x: u32, y: u32, numbers: &mut [u32]) -> Build
+    requires { ⌜ b .fill + 2 < 2 ^ 64 ⌝ }
+    ensures { λ r. ⌜ (r .fill ≡ b .fill + 2) × ((t : Taken) (out : List ℕ) → Shows out t b (now (numbers .entry)) → Shows out (Reading.push y (Reading.push x t)) r (now (numbers .exit))) ⌝ }
+{
+    push(push(b, x, numbers), y, numbers)
+}
+
+// What a point adds.
+fn pointing(c: Cursor, x: u32, y: u32, b: Build, numbers: &mut [u32]) -> Build
+    requires { ⌜ (c .members ≤ 64) × (b .fill + 3 < 2 ^ 64) ⌝ }
+    ensures { λ r. ⌜ (r .fill ≤ b .fill + 3) × ((t : Taken) (out : List ℕ) → Shows out t b (now (numbers .entry)) → Shows out (Reading.pointing c x y t) r (now (numbers .exit))) ⌝ }
+{
+    let more = noted(b, x, y);
+    if c.member != 1 {
+        return push_both(more, x, y, numbers);
+    }
+    if c.points != 1 {
+        return push_both(more, x, y, numbers);
+    }
+    if c.parts != 0 {
+        return more;
+    }
+    if c.rings != 0 {
+        return more;
+    }
+    push(more, c.members + 10_000_000, numbers)
+}
+
+// The point is the ring's last and differs from its first.
+fn differs(c: Cursor, x: u32, y: u32, b: Build) -> bool
+    ensures { λ r. ⌜ ((t : Taken) (out numbers : List ℕ) → Shows out t b numbers → r ≡ differs c x y t) ⌝ }
+{
+    if c.points != 1 {
+        return false;
+    }
+    let begun = noted(b, x, y);
+    if x != begun.x {
+        return true;
+    }
+    y != begun.y
+}
+
+// A point is judged as it comes: 5 where a double is not a coordinate, then 6 where the ring's last point differs from its first.
+fn judged(c: Cursor, next: Cursor, b: Build, x: f64, y: f64, numbers: &mut [u32]) -> Turn
+    requires { ⌜ (c .members ≤ 64) × (b .fill + 3 < 2 ^ 64) ⌝ }
+    ensures { λ r. ⌜ Leads (Point x y next) b r × ((t : Taken) (out : List ℕ) → Shows out t b (now (numbers .entry)) → Turned out (Reading.judged c next t (coordinateOf x) (coordinateOf y)) r (now (numbers .exit))) ⌝ }
+{
+    let Coordinate::Whole(h) = coordinate::judge(x) else {
+        return Turn::Over(5, c.member, b.fill);
+    };
+    let Coordinate::Whole(k) = coordinate::judge(y) else {
+        return Turn::Over(5, c.member, b.fill);
+    };
+    if differs(c, h, k, b) {
+        return Turn::Over(6, c.member, b.fill);
+    }
+    Turn::On(next, pointing(c, h, k, b, numbers))
+}
+
+// What the answer of a step at c adds.
+fn taken(c: Cursor, b: Build, a: Step, numbers: &mut [u32]) -> Turn
+    requires { ⌜ Ready c b a ⌝ }
+    ensures { λ r. ⌜ Leads a b r × ((t : Taken) (out : List ℕ) → Shows out t b (now (numbers .entry)) → Turned out (Reading.taken c t a) r (now (numbers .exit))) ⌝ }
+{
+    match a {
+        Step::Geometry(kind, n, next) => Turn::On(
+            next,
+            opening(c.slot(), c, next, kind, n, b, numbers),
+        ),
+        Step::Ring(n, next) => Turn::On(next, ringing(c, n, b, numbers)),
+        Step::Point(x, y, next) => judged(c, next, b, x, y, numbers),
+        Step::End(_) => Turn::Over(0, 0, b.fill),
+        Step::Refused(code, item, _) => Turn::Over(code, item, b.fill),
+    }
+}
+
+// The rings and points of an open polygon.
+fn rings(s: &[u8], from: Cursor, had: Build, numbers: &mut [u32]) -> Turn
+    requires { ⌜ Within (now s) from had ⌝ }
+    ensures { λ r. ⌜ Safe (now (s .entry)) (from .at) r × ((t : Taken) (out : List ℕ) → Shows out t had (now (numbers .entry)) → Onward (now (s .entry)) out (Reading.reading (now (s .entry)) from t) r (now (numbers .exit))) ⌝ }
+{
+    let mut c = from;
+    let mut b = had;
+    while 0 < c.rings || 0 < c.points {
+        let t = taken(c, b, c.step(s), numbers);
+        match t {
+            Turn::On(next, more) => {
+                c = next;
+                b = more;
+            }
+            Turn::Over(code, item, n) => {
+                return Turn::Over(code, item, n);
+            }
+        }
+    }
+    Turn::On(c, b)
+}
+
+// A geometry: its header, then its rings or the geometries that it holds, so many levels deep at most.
+fn geometry(s: &[u8], c: Cursor, b: Build, depth: u32, numbers: &mut [u32]) -> Turn
+    requires { ⌜ Within (now s) c b ⌝ }
+    ensures { λ r. ⌜ Safe (now (s .entry)) (c .at + 1) r × ((t : Taken) (out : List ℕ) → Shows out t b (now (numbers .entry)) → Onward (now (s .entry)) out (Reading.reading (now (s .entry)) c t) r (now (numbers .exit))) ⌝ }
+{
+    let a = c.step(s);
+    let t = taken(c, b, a, numbers);
+    let Turn::On(next, more) = t else {
+        return t;
+    };
+    let Step::Geometry(_, n, _) = a else {
+        return t;
+    };
+    if 0 < next.rings {
+        return rings(s, next, more, numbers);
+    }
+    if depth == 0 {
+        return t;
+    }
+    collection(s, next, more, n, depth - 1, numbers)
+}
+
+// The n geometries that a collection, a MultiPolygon or the table holds.
+fn collection(s: &[u8], from: Cursor, had: Build, n: u32, depth: u32, numbers: &mut [u32]) -> Turn
+    requires { ⌜ Within (now s) from had ⌝ }
+    ensures { λ r. ⌜ Safe (now (s .entry)) (from .at) r × ((t : Taken) (out : List ℕ) → Shows out t had (now (numbers .entry)) → Onward (now (s .entry)) out (Reading.reading (now (s .entry)) from t) r (now (numbers .exit))) ⌝ }
+{
+    let mut c = from;
+    let mut b = had;
+    let mut left = n;
+    while 0 < left {
+        let t = geometry(s, c, b, depth, numbers);
+        match t {
+            Turn::On(next, more) => {
+                c = next;
+                b = more;
+            }
+            Turn::Over(code, item, k) => {
+                return Turn::Over(code, item, k);
+            }
+        }
+        left -= 1;
+    }
+    Turn::On(c, b)
+}
+
+// Reads a sheet into lent numbers: its numbers form, each number plus 10,000,000, as far as there is room.
+pub fn read(s: &[u8], numbers: &mut [u32]) -> Ending
+    ensures { λ r. ⌜ (r ≡ readOf (readingOf (now (s .entry)))) × (now (numbers .exit) ≡ laid (readingOf (now (s .entry)) .numbers) (now (numbers .entry))) ⌝ }
+{
+    let mut c = Cursor::start();
+    let mut b = Build {
+        fill: 0,
+        mark: 0,
+        first: false,
+        x: 0,
+        y: 0,
+    };
+    loop {
+        let t = geometry(s, c, b, 5, numbers);
+        match t {
+            Turn::On(next, more) => {
+                c = next;
+                b = more;
+            }
+            Turn::Over(code, item, n) => {
+                if code == 0 {
+                    return Ending::Sheet(n);
+                }
+                return Ending::Refused(code, item);
+            }
+        }
+    }
+}

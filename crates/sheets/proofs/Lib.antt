@@ -1,0 +1,3 @@
+-- The laws that the entries' proofs share.
+pub mod Bytes
+pub mod Outcomes

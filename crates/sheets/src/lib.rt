@@ -1,0 +1,69 @@
+// The entries that both products call, on numbers and byte slices only. Each answers item × 256 + code.
+ghost use mathlib.Core.Path.{_≡_};
+ghost use mathlib.Core.List.{flatMap, _++_};
+ghost use Prim.Native.Nat.{_+_, _*_, _≤_};
+ghost use lib.ListN.{length, take, drop};
+ghost use lib.Seq.{sets};
+ghost use mir.Syntax.{w32};
+ghost use mir.Val.{ofZ};
+ghost use Rattle.plane.specs.Corners.{millimetres};
+ghost use Rattle.sheets.specs.Answered.{Answered};
+ghost use Rattle.sheets.specs.Entries.{heldBytes, sheetNumbers};
+use sheet::Ending;
+
+// A held number as the bits of an i32.
+fn bits(h: u32) -> u32
+    ensures { λ r. ⌜ r ≡ ofZ w32 (millimetres h) ⌝ }
+{
+    if h < 10_000_000 {
+        h + 4_284_967_296
+    } else {
+        h - 10_000_000
+    }
+}
+
+// Writes a held number as a little-endian i32.
+fn put(out: &mut [u8], at: usize, h: u32)
+    requires { ⌜ at + 4 ≤ length (now out) ⌝ }
+    ensures { λ _. ⌜ now (out .exit) ≡ sets (now (out .entry)) at (heldBytes h) ⌝ }
+{
+    let a = bits(h);
+    let b = a / 256;
+    let c = b / 256;
+    let d = c / 256;
+    out[at] = (a % 256) as u8;
+    out[at + 1] = (b % 256) as u8;
+    out[at + 2] = (c % 256) as u8;
+    out[at + 3] = (d % 256) as u8;
+}
+
+// Writes the first n held numbers over the front of the lent bytes.
+fn write(numbers: &[u32], n: usize, out: &mut [u8])
+    requires { ⌜ (n ≤ length (now numbers)) × (4 * n ≤ length (now out)) ⌝ }
+    ensures { λ _. ⌜ now (out .exit) ≡ flatMap heldBytes (take n (now (numbers .entry))) ++ drop (4 * n) (now (out .entry)) ⌝ }
+{
+    let mut i: usize = 0;
+    while i < n {
+        put(out, 4 * i, numbers[i]);
+        i += 1;
+    }
+}
+
+// The numbers of a sheet: its numbers form as little-endian i32; the item is the number of bytes.
+#[no_mangle]
+pub extern "C" fn sheet_numbers(sheet: &[u8], out: &mut [u8]) -> u64
+    ensures { λ r. ⌜ Answered (sheetNumbers (now (sheet .entry))) (now (out .entry)) r (now (out .exit)) ⌝ }
+{
+    let mut numbers = [0u32; 16450];
+    let ending = sheet::read(sheet, &mut numbers);
+    match ending {
+        Ending::Refused(code, item) => item as u64 * 256 + code as u64,
+        Ending::Sheet(n) => {
+            if out.len() / 4 < n {
+                return 40;
+            }
+            write(&numbers, n, out);
+            4 * (n as u64) * 256
+        }
+    }
+}

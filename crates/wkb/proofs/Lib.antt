@@ -1,0 +1,4 @@
+-- The theorems of the binary form.
+pub mod Bytes
+pub mod Steps
+pub mod Again

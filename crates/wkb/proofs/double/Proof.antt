@@ -1,0 +1,18 @@
+-- `wkb::double` meets its contract: the pattern is the number of the 8 bytes. Assumes nothing.
+use borrow.Author.Needs.{needs}
+use Rattle.wkb.specs.Bytes.{doubleAt}
+use Rattle.wkb.proofs.double.Statement.{statement}
+use Rattle.wkb.proofs.double.Tie as tie
+
+number-requires : tie.Need-number-requires
+number-requires c κs = search needs
+
+of-pattern-requires : tie.Need-of-pattern-requires
+of-pattern-requires c κs = search needs
+
+returns : tie.Need-returns
+unfolding doubleAt
+returns c = cc
+
+pub double-spec : {M : Type 1} → statement M
+double-spec = tie.close (tie.spec number-requires of-pattern-requires returns)

@@ -1,0 +1,531 @@
+// The binary form of OGC Simple Features, read by steps. A step takes the reading place and hands back the next one.
+ghost use mathlib.Core.Path.{_≡_};
+ghost use Prim.Native.Nat.{_+_, _-_, _*_, _^_, _≤_, _<_};
+ghost use lib.ListN.{length};
+ghost use lib.Ieee.{binary64, ofBits};
+ghost use Rattle.wkb.specs.Bytes.{numberOf, placeOf, field, remains, wordAt, doubleAt};
+ghost use Rattle.wkb.specs.Kinds.{typeOf};
+ghost use mathlib.Core.Bool.{true};
+ghost use Rattle.wkb.specs.Steps.{start, slotOf, complete, renewed, kindFault, countFits, popped, withRings, withParts, withMembers, withSheet, fewerParts, opened, refusal, geometryAt, ringFits, withPoints, ringAt, afterPoint, pointAt, endAt, stepAt};
+
+// The kinds of geometry; their type numbers are the constants.
+pub enum Kind {
+    Polygon,
+    MultiPolygon,
+    Collection,
+    Tin,
+    Triangle,
+}
+
+impl Kind {
+    pub const POLYGON: u32 = 3;
+
+    pub const MULTI_POLYGON: u32 = 6;
+
+    pub const COLLECTION: u32 = 7;
+
+    pub const TIN: u32 = 16;
+
+    pub const TRIANGLE: u32 = 17;
+
+    // The kind's type number.
+    pub fn number(self) -> u32
+        ensures { λ r. ⌜ r ≡ typeOf self ⌝ }
+    {
+        match self {
+            Kind::Polygon => Kind::POLYGON,
+            Kind::MultiPolygon => Kind::MULTI_POLYGON,
+            Kind::Collection => Kind::COLLECTION,
+            Kind::Tin => Kind::TIN,
+            Kind::Triangle => Kind::TRIANGLE,
+        }
+    }
+}
+
+// A reading place: where it stands, the member it names, and what is still to come there.
+pub struct Cursor {
+    // the byte it stands at
+    pub at: usize,
+    // the member of the sheet that it names: 0 in the sheet's own header, 1 for the table
+    pub member: u32,
+    // members of the sheet after this one
+    pub members: u32,
+    // the member's own header is still to come
+    pub header: bool,
+    // members still to come of the open collections at depth 2, 3 and 4
+    pub second: u32,
+    pub third: u32,
+    pub fourth: u32,
+    // pieces of the table or parts of the open MultiPolygon still to come
+    pub parts: u32,
+    // rings of the open polygon still to come, and its byte order
+    pub rings: u32,
+    pub little: bool,
+    // points of the open ring still to come
+    pub points: u32,
+    // polygons begun under this member, and points of polygons counted in the sheet
+    pub polygons: u32,
+    pub total: u32,
+}
+
+// What a step answers, each with the next place: a geometry opened with its type and count, a ring with its count, a point with its two
+// doubles as they stand, the end, or a refusal with its number and item.
+pub enum Step {
+    Geometry(u32, u32, Cursor),
+    Ring(u32, Cursor),
+    Point(f64, f64, Cursor),
+    End(Cursor),
+    Refused(u32, u32, Cursor),
+}
+
+// Which geometry stands at a place: the sheet, the table, a piece of it, a part of a MultiPolygon, or a member at some depth.
+pub enum Slot {
+    Sheet,
+    Table,
+    Piece,
+    Part,
+    Member,
+}
+
+fn wide(b: u8) -> u64
+    ensures { λ r. ⌜ r ≡ b ⌝ }
+{
+    b as u64
+}
+
+// Where the byte of the weight 256 ^ (n - 1 - k) of n bytes stands.
+fn place(little: bool, at: usize, n: usize, k: usize) -> usize
+    requires { ⌜ (k < n) × (at + n < 2 ^ 64) ⌝ }
+    ensures { λ r. ⌜ (r ≡ placeOf little at n k) × (r < at + n) ⌝ }
+{
+    if little { at + (n - 1 - k) } else { at + k }
+}
+
+// The number of the n bytes at a place.
+fn number(s: &[u8], at: usize, n: usize, little: bool) -> u64
+    requires { ⌜ (n ≤ 8) × (at + n ≤ length (now s)) ⌝ }
+    ensures { λ r. ⌜ (r ≡ numberOf little (field (now (s .entry)) at n)) × (r < 2 ^ (8 * n)) ⌝ }
+{
+    let mut v: u64 = 0;
+    let mut k: usize = 0;
+    while k < n {
+        let i = place(little, at, n, k);
+        v = v * 256 + wide(s[i]);
+        k += 1;
+    }
+    v
+}
+
+// The double of a pattern: every NaN pattern is the one NaN.
+fn of_pattern(b: u64) -> f64
+    ensures { λ r. ⌜ r ≡ ofBits binary64 b ⌝ }
+{
+    if 0x7ff0_0000_0000_0000 < b % 0x8000_0000_0000_0000 {
+        0.0 / 0.0
+    } else {
+        f64::from_bits(b)
+    }
+}
+
+fn double(s: &[u8], at: usize, little: bool) -> f64
+    requires { ⌜ at + 8 ≤ length (now s) ⌝ }
+    ensures { λ r. ⌜ r ≡ doubleAt little (now (s .entry)) at ⌝ }
+{
+    of_pattern(number(s, at, 8, little))
+}
+
+fn word(s: &[u8], at: usize, little: bool) -> u32
+    requires { ⌜ at + 4 ≤ length (now s) ⌝ }
+    ensures { λ r. ⌜ r ≡ wordAt little (now (s .entry)) at ⌝ }
+{
+    number(s, at, 4, little) as u32
+}
+
+// n bytes remain at a place.
+fn remain(s: &[u8], at: usize, n: usize) -> bool
+    ensures { λ r. ⌜ r ≡ remains (now (s .entry)) at n ⌝ }
+{
+    if at <= s.len() {
+        n <= s.len() - at
+    } else {
+        false
+    }
+}
+
+// One fewer, and none of none.
+fn less(n: u32) -> u32
+    ensures { λ r. ⌜ r ≡ n - 1 ⌝ }
+{
+    if 0 < n { n - 1 } else { 0 }
+}
+
+impl Cursor {
+    // The place before the first byte.
+    pub fn start() -> Cursor
+        ensures { λ r. ⌜ r ≡ start ⌝ }
+    {
+        Cursor {
+            at: 0,
+            member: 0,
+            members: 0,
+            header: false,
+            second: 0,
+            third: 0,
+            fourth: 0,
+            parts: 0,
+            rings: 0,
+            little: false,
+            points: 0,
+            polygons: 0,
+            total: 0,
+        }
+    }
+
+    pub fn slot(self) -> Slot
+        ensures { λ r. ⌜ r ≡ slotOf self ⌝ }
+    {
+        if self.member == 0 {
+            return Slot::Sheet;
+        }
+        if self.member == 1 {
+            if 0 < self.parts {
+                return Slot::Piece;
+            }
+            return Slot::Table;
+        }
+        if 0 < self.parts {
+            return Slot::Part;
+        }
+        Slot::Member
+    }
+
+    fn is_complete(self) -> bool
+        ensures { λ r. ⌜ r ≡ complete self ⌝ }
+    {
+        if self.header {
+            return false;
+        }
+        if self.second != 0 {
+            return false;
+        }
+        if self.third != 0 {
+            return false;
+        }
+        if self.fourth != 0 {
+            return false;
+        }
+        if self.parts != 0 {
+            return false;
+        }
+        if self.rings != 0 {
+            return false;
+        }
+        self.points == 0
+    }
+
+    fn renewed(mut self) -> Cursor
+        ensures { λ r. ⌜ r ≡ renewed self ⌝ }
+    {
+        if !self.is_complete() {
+            return self;
+        }
+        if self.members == 0 {
+            return self;
+        }
+        let left = self.members - 1;
+        self.members = left;
+        if self.member < 65 {
+            let next = self.member + 1;
+            self.member = next;
+        }
+        self.header = true;
+        self.polygons = 0;
+        self
+    }
+
+    // What is wrong with a type here: 0 where it is allowed.
+    fn kind_fault(self, slot: Slot, kind: u32) -> u32
+        ensures { λ r. ⌜ r ≡ kindFault slot self kind ⌝ }
+    {
+        let crowded = if self.polygons < 64 { 0 } else { 4 };
+        let deep = if self.fourth == 0 { 0 } else { 8 };
+        match slot {
+            Slot::Sheet => if kind == Kind::COLLECTION { 0 } else { 3 },
+            Slot::Table => if kind == Kind::TIN { 0 } else { 3 },
+            Slot::Piece => {
+                if kind == Kind::TRIANGLE {
+                    0
+                } else if kind == Kind::POLYGON {
+                    0
+                } else {
+                    3
+                }
+            }
+            Slot::Part => if kind == Kind::POLYGON { crowded } else { 3 },
+            Slot::Member => {
+                if kind == Kind::POLYGON {
+                    crowded
+                } else if kind == Kind::MULTI_POLYGON {
+                    0
+                } else if kind == Kind::COLLECTION {
+                    deep
+                } else {
+                    3
+                }
+            }
+        }
+    }
+
+    fn popped(mut self) -> Cursor
+        ensures { λ r. ⌜ r ≡ popped self ⌝ }
+    {
+        if self.header {
+            self.header = false;
+            return self;
+        }
+        if 0 < self.fourth {
+            let n = self.fourth - 1;
+            self.fourth = n;
+            return self;
+        }
+        if 0 < self.third {
+            let n = self.third - 1;
+            self.third = n;
+            return self;
+        }
+        let n = less(self.second);
+        self.second = n;
+        self
+    }
+
+    fn with_rings(mut self, counted: bool, n: u32, little: bool) -> Cursor
+        requires { ⌜ self .at + 9 < 2 ^ 64 ⌝ }
+        ensures { λ r. ⌜ r ≡ withRings counted n little self ⌝ }
+    {
+        self.at = self.at + 9;
+        self.rings = n;
+        self.little = little;
+        if counted {
+            if self.polygons < 64 {
+                let more = self.polygons + 1;
+                self.polygons = more;
+            }
+        }
+        self
+    }
+
+    fn with_parts(mut self, n: u32) -> Cursor
+        requires { ⌜ self .at + 9 < 2 ^ 64 ⌝ }
+        ensures { λ r. ⌜ r ≡ withParts n self ⌝ }
+    {
+        self.at = self.at + 9;
+        self.parts = n;
+        self
+    }
+
+    // A collection is opened under a member; `stood` is the place where its header stood.
+    fn with_members(mut self, stood: Cursor, n: u32) -> Cursor
+        requires { ⌜ self .at + 9 < 2 ^ 64 ⌝ }
+        ensures { λ r. ⌜ r ≡ withMembers stood n self ⌝ }
+    {
+        self.at = self.at + 9;
+        if stood.header {
+            self.second = n;
+        } else if 0 < stood.third {
+            self.fourth = n;
+        } else {
+            self.third = n;
+        }
+        self
+    }
+
+    fn with_sheet(mut self, n: u32) -> Cursor
+        requires { ⌜ (self .at + 9 < 2 ^ 64) × (0 < n) ⌝ }
+        ensures { λ r. ⌜ r ≡ withSheet n self ⌝ }
+    {
+        self.at = self.at + 9;
+        self.member = 1;
+        self.members = n - 1;
+        self.header = true;
+        self
+    }
+
+    fn fewer_parts(mut self) -> Cursor
+        ensures { λ r. ⌜ r ≡ fewerParts self ⌝ }
+    {
+        let n = less(self.parts);
+        self.parts = n;
+        self
+    }
+
+    // The place after a header.
+    fn opened(self, slot: Slot, little: bool, kind: u32, n: u32) -> Cursor
+        requires { ⌜ (self .at + 9 < 2 ^ 64) × (0 < n) ⌝ }
+        ensures { λ r. ⌜ r ≡ opened slot self little kind n ⌝ }
+    {
+        match slot {
+            Slot::Sheet => self.with_sheet(n),
+            Slot::Table => self.popped().with_parts(n),
+            Slot::Piece => self.fewer_parts().with_rings(false, n, little),
+            Slot::Part => self.fewer_parts().with_rings(true, n, little),
+            Slot::Member => {
+                if kind == Kind::POLYGON {
+                    self.popped().with_rings(true, n, little)
+                } else if kind == Kind::MULTI_POLYGON {
+                    self.popped().with_parts(n)
+                } else {
+                    self.popped().with_members(self, n)
+                }
+            }
+        }
+    }
+
+    fn refused(self, code: u32) -> Step
+        ensures { λ r. ⌜ r ≡ refusal code self ⌝ }
+    {
+        Step::Refused(code, self.member, self)
+    }
+
+    // A geometry's header.
+    fn geometry(self, s: &[u8]) -> Step
+        ensures { λ r. ⌜ r ≡ geometryAt (now (s .entry)) self ⌝ }
+    {
+        let at = self.at;
+        if !remain(s, at, 1) {
+            return self.refused(1);
+        }
+        let order = s[at];
+        if 2 <= order {
+            return self.refused(2);
+        }
+        if !remain(s, at, 5) {
+            return self.refused(1);
+        }
+        let little = order == 1;
+        let kind = word(s, at + 1, little);
+        let slot = self.slot();
+        let fault = self.kind_fault(slot, kind);
+        if fault != 0 {
+            return self.refused(fault);
+        }
+        if !remain(s, at, 9) {
+            return self.refused(1);
+        }
+        let count = word(s, at + 5, little);
+        if !count_fits(slot, count) {
+            return self.refused(4);
+        }
+        Step::Geometry(kind, count, self.opened(slot, little, kind, count))
+    }
+
+    fn ring_fits(self, n: u32) -> bool
+        ensures { λ r. ⌜ r ≡ ringFits self n ⌝ }
+    {
+        if self.member == 1 {
+            return n == 4;
+        }
+        if n < 4 {
+            return false;
+        }
+        if 4096 < n {
+            return false;
+        }
+        self.total <= 4096 - n
+    }
+
+    fn with_points(mut self, n: u32) -> Cursor
+        requires { ⌜ (self .at + 4 < 2 ^ 64) × (ringFits self n ≡ true) ⌝ }
+        ensures { λ r. ⌜ r ≡ withPoints n self ⌝ }
+    {
+        self.at = self.at + 4;
+        let left = less(self.rings);
+        self.rings = left;
+        self.points = n;
+        if self.member != 1 {
+            let total = self.total + n;
+            self.total = total;
+        }
+        self
+    }
+
+    // A ring's count.
+    fn ring(self, s: &[u8]) -> Step
+        ensures { λ r. ⌜ r ≡ ringAt (now (s .entry)) self ⌝ }
+    {
+        let at = self.at;
+        if !remain(s, at, 4) {
+            return self.refused(1);
+        }
+        let n = word(s, at, self.little);
+        if !self.ring_fits(n) {
+            return self.refused(4);
+        }
+        Step::Ring(n, self.with_points(n))
+    }
+
+    fn after_point(mut self) -> Cursor
+        requires { ⌜ self .at + 16 < 2 ^ 64 ⌝ }
+        ensures { λ r. ⌜ r ≡ afterPoint self ⌝ }
+    {
+        self.at = self.at + 16;
+        let left = less(self.points);
+        self.points = left;
+        self.renewed()
+    }
+
+    // A point.
+    fn point(self, s: &[u8]) -> Step
+        ensures { λ r. ⌜ r ≡ pointAt (now (s .entry)) self ⌝ }
+    {
+        let at = self.at;
+        if !remain(s, at, 16) {
+            return self.refused(1);
+        }
+        let little = self.little;
+        let x = double(s, at, little);
+        let y = double(s, at + 8, little);
+        Step::Point(x, y, self.after_point())
+    }
+
+    fn end(self, s: &[u8]) -> Step
+        ensures { λ r. ⌜ r ≡ endAt (now (s .entry)) self ⌝ }
+    {
+        let at = self.at;
+        if at < s.len() {
+            return Step::Refused(7, 0, self);
+        }
+        if at == s.len() {
+            return Step::End(self);
+        }
+        self.refused(1)
+    }
+
+    // One step of reading, at any place and for any bytes.
+    pub fn step(self, s: &[u8]) -> Step
+        ensures { λ r. ⌜ r ≡ stepAt (now (s .entry)) self ⌝ }
+    {
+        if 0 < self.points {
+            return self.point(s);
+        }
+        if 0 < self.rings {
+            return self.ring(s);
+        }
+        if self.member != 0 && self.is_complete() {
+            return self.end(s);
+        }
+        self.geometry(s)
+    }
+}
+
+// The count is within its limits.
+fn count_fits(slot: Slot, n: u32) -> bool
+    ensures { λ r. ⌜ r ≡ countFits slot n ⌝ }
+{
+    match slot {
+        Slot::Sheet => 1 <= n && n <= 65,
+        Slot::Table => 2 <= n && n <= 1024,
+        Slot::Piece => n == 1,
+        Slot::Part => 1 <= n && n <= 64,
+        Slot::Member => 1 <= n && n <= 64,
+    }
+}
