@@ -34,12 +34,12 @@ beq-true false true h = absurd (false≢true h)
 
 -- ---- a double that equals a whole number
 
-abbrev sign : ℤ → Bool
+abbrev pub sign : ℤ → Bool
 sign (pos k) = false
 sign (negsuc k) = true
 
 -- A whole number as a double has its value.
-int-value : (n : ℤ) → Within 10_000_000 n → HasValue (ofInt binary64 n) (sign n) (natAbs n) 1
+pub int-value : (n : ℤ) → Within 10_000_000 n → HasValue (ofInt binary64 n) (sign n) (natAbs n) 1
 unfolding ofInt
 int-value (pos k) h = round-whole binary64 false k (le-trans (h .size) (lit≤ tt))
 int-value (negsuc k) h = round-whole binary64 true (suc k) (le-trans (h .size) (lit≤ tt))

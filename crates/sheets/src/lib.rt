@@ -8,8 +8,9 @@ ghost use mir.Syntax.{w32};
 ghost use mir.Val.{ofZ};
 ghost use Rattle.plane.specs.Corners.{millimetres};
 ghost use Rattle.sheets.specs.Answered.{Answered};
-ghost use Rattle.sheets.specs.Entries.{heldBytes, sheetNumbers};
+ghost use Rattle.sheets.specs.Entries.{heldBytes, sheetNumbers, sheetWrite};
 use sheet::Ending;
+use writer::Writing;
 
 // A held number as the bits of an i32.
 fn bits(h: u32) -> u32
@@ -65,5 +66,17 @@ pub extern "C" fn sheet_numbers(sheet: &[u8], out: &mut [u8]) -> u64
             write(&numbers, n, out);
             4 * (n as u64) * 256
         }
+    }
+}
+
+// The normal bytes of the sheet that the numbers give, as little-endian i32; the item is the number of bytes.
+#[no_mangle]
+pub extern "C" fn sheet_write(numbers: &[u8], out: &mut [u8]) -> u64
+    ensures { λ r. ⌜ Answered (sheetWrite (now (numbers .entry))) (now (out .entry)) r (now (out .exit)) ⌝ }
+{
+    match writer::write(numbers, out) {
+        Writing::Refused => 42,
+        Writing::Short => 40,
+        Writing::Bytes(n) => n as u64 * 256,
     }
 }

@@ -1,0 +1,107 @@
+-- The sheet that the bytes give, against what the walk over it came to. Assumes nothing.
+use mathlib.Core.Path.{_≡_, refl, sym, _∙_, ap, subst}
+use mathlib.Core.Bool.{Bool, true, false, cond, true≢false}
+use mathlib.Core.List.{List, _++_}
+use mathlib.Core.Option.{Option, none, some, Option·none-ne-some, Option·some-injective}
+use Prim.Native.Nat.{ℕ, _+_, _%_, _≤_, _<_}
+use native.Mathlib.Omega.{arith}
+use borrow.Author.Tests.{eq-eqb, ne-eqb, le-leb, lt-leb}
+use lib.Dec.{T}
+use lib.ListN.{length, drop}
+use lib.Seq.{sets, sets-eq}
+use Rattle.sheet.specs.Numbers.{Sheet, numbersOf}
+use Rattle.written.specs.Fits.{sheetFits}
+use Rattle.written.specs.Form.{sheetIn, numbersIn}
+use Rattle.written.specs.Given.{limited, sheetGiven}
+use Rattle.written.specs.Normal.{written}
+use Rattle.written.proofs.Form.{form-is}
+use Rattle.written.proofs.Trip.{form-small}
+use Rattle.writer.specs.declared.Walk.{Walk}
+use Rattle.writer.specs.declared.Writing.{Writing}
+use Rattle.writer.specs.declared.Writing.the-variants.{Refused, Short, Bytes}
+use Rattle.writer.specs.Emit.{emitSheet}
+use Rattle.writer.specs.Walks.{Ended}
+use Rattle.writer.specs.Writings.{writingOf, leftBy}
+use Rattle.writer.proofs.Emits.{writtenFor, emit-sheet}
+use Rattle.writer.proofs.Numbers.{numbers-length}
+
+-- A sheet that is given is within the limits.
+record Given (x : Option Sheet) (n : Sheet) : Type 0 where
+  is : x ≡ some n
+  fits : T (sheetFits n)
+
+given : (x : Option Sheet) (n : Sheet) → limited x ≡ some n → Given x n
+given none n e = absurd (Option·none-ne-some _ e)
+given (some m) n e = go (sheetFits m) refl e
+  where
+    go : (b : Bool) → sheetFits m ≡ b → cond b (some m) none ≡ some n → Given (some m) n
+    go true f e = let q = Option·some-injective m n e in record { is = ap some q; fits = subst (λ k. T (sheetFits k)) q (subst T (sym f) tt) }
+    go false f e = absurd (Option·none-ne-some _ e)
+
+module _ (s : List ℕ) where
+  -- A length that is no multiple of 4.
+  pub given-odd : (length s % 4 ≡ 0 → ⊥) → sheetGiven s ≡ none
+  unfolding sheetGiven
+  given-odd h = rw (ne-eqb (length s % 4) 0 h) refl
+
+  module _ (fours : length s % 4 ≡ 0) where
+    is-limited : sheetGiven s ≡ limited (sheetIn (numbersIn s))
+    unfolding sheetGiven
+    is-limited = rw (eq-eqb (length s % 4) 0 fours) refl
+
+    -- More numbers than any sheet has.
+    pub given-long : 65800 < length s → sheetGiven s ≡ none
+    given-long h = go (sheetGiven s) refl
+      where
+        go : (x : Option Sheet) → sheetGiven s ≡ x → x ≡ none
+        go none e = refl
+        go (some n) e =
+            let g = given (sheetIn (numbersIn s)) n (sym is-limited ∙ e) in
+            let q : length (numbersOf n) ≡ length (numbersIn s) = ap length (form-is (numbersIn s) n .0 (g .is)) in
+            let k = form-small n (g .fits) in
+            let l = numbers-length s in
+            absurd (let z : 65800 < 65800 = omega arith in omega (arith, z))
+
+    for : emitSheet (numbersIn s) ≡ writtenFor (sheetGiven s)
+    for = emit-sheet (numbersIn s) ∙ ap writtenFor (sym is-limited)
+
+    pub ended-ill : (before after : List ℕ) (r : Walk) → Ended (emitSheet (numbersIn s)) before r after → r .good ≡ false → sheetGiven s ≡ none
+    ended-ill before after r h g = go (sheetGiven s) (subst (λ x. Ended x before r after) for h)
+      where
+        go : (x : Option Sheet) → Ended (writtenFor x) before r after → x ≡ none
+        go none k = refl
+        go (some n) k = absurd (true≢false (sym (k .0) ∙ g))
+
+    -- A sheet that is given, with what the walk wrote.
+    pub record Wrote (before after : List ℕ) (r : Walk) : Type 0 where
+      pub sheet : Sheet
+      pub is : sheetGiven s ≡ some sheet
+      pub to-is : r .to ≡ length (written sheet)
+      pub left : after ≡ sets before 0 (written sheet)
+
+    pub ended-well : (before after : List ℕ) (r : Walk) → Ended (emitSheet (numbersIn s)) before r after → r .good ≡ true → Wrote before after r
+    ended-well before after r h g = go (sheetGiven s) refl (subst (λ x. Ended x before r after) for h)
+      where
+        go : (x : Option Sheet) → sheetGiven s ≡ x → Ended (writtenFor x) before r after → Wrote before after r
+        go none e k = absurd (true≢false (sym g ∙ k .0))
+        go (some n) e k = record { sheet = n; is = e; to-is = k .1; left = k .2 }
+
+    -- The walk over the lent bytes writes the sheet that is given.
+    pub written-again : (before after : List ℕ) (r : Walk) (n : Sheet) → sheetGiven s ≡ some n → Ended (emitSheet (numbersIn s)) before r after → after ≡ sets before 0 (written n)
+    written-again before after r n e h = let k = subst (λ x. Ended (writtenFor x) before r after) e (subst (λ x. Ended x before r after) for h) in k .2
+
+  -- ---- what writing comes to
+  abbrev Comes : List ℕ → Writing → List ℕ → Type 0
+  Comes o r a = (r ≡ writingOf (sheetGiven s) o) × (a ≡ leftBy (sheetGiven s) o)
+
+  pub comes-refused : (o : List ℕ) → sheetGiven s ≡ none → Comes o Refused o
+  comes-refused o e = rw e (refl, refl)
+
+  pub comes-short : (o : List ℕ) (n : Sheet) → sheetGiven s ≡ some n → length o < length (written n) → Comes o Short o
+  comes-short o n e h = rw e (rw (lt-leb (length (written n)) (length o) h) (refl, refl))
+
+  pub comes-bytes : (o a : List ℕ) (n : Sheet) (k : ℕ) → sheetGiven s ≡ some n → k ≡ length (written n) → length (written n) ≤ length o → a ≡ sets o 0 (written n) → Comes o (Bytes k) a
+  comes-bytes o a n k e q h f =
+      let z : 0 + length (written n) ≡ length (written n) = omega arith in
+      let l = sets-eq (written n) o 0 (omega arith) in
+      rw e (rw (le-leb (length (written n)) (length o) h) (ap Bytes q, f ∙ l ∙ ap (λ j. written n ++ drop j o) z))

@@ -1,0 +1,15 @@
+-- `writer::in_range` meets its contract: a number from 0 up is its bits, and one below 0 is its bits less 2 ^ 32. Assumes nothing.
+use mathlib.Core.Path.{sym}
+use native.Mathlib.Omega.{arith}
+use Rattle.writer.proofs.Numbers.{in-range-low, in-range-high}
+use Rattle.writer.proofs.in_range.Statement.{statement}
+use Rattle.writer.proofs.in_range.Tie as tie
+
+returns : tie.Need-returns
+returns c = sym (in-range-low (c .before .args .b) (omega arith))
+
+returns-2 : tie.Need-returns-2
+returns-2 c = sym (in-range-high (c .before .args .b) (omega arith) (omega arith))
+
+pub in-range-spec : {M : Type 1} → statement M
+in-range-spec = tie.close (tie.spec returns returns-2)

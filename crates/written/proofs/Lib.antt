@@ -1,0 +1,9 @@
+-- The theorems of writing: the numbers form is a faithful code (Form), and the round trip (Trip).
+pub mod Form
+pub mod Patterns
+mod Encoded
+mod Normal
+pub mod Sized
+mod Read
+pub mod Trip
+pub mod Examples
