@@ -7,14 +7,11 @@ and numbers (docs/DECISIONS.md) only, by recursive descent over the bytes; nothi
     python3 tests/reading.py --vectors FILE    compare with the `numbers` calls of a file of vectors: 'N agree, M differ'
     python3 tests/reading.py --write           write crates/numbers_try/stdin and stdout
     python3 tests/reading.py --check           compare these two files with what is computed here: 'N passed, M failed'
-
-stdin has a frame for each case: u32 LE length of the sheet, u32 LE number of lent bytes, the sheet. stdout has a line for each: the packed
-answer, a blank, and a checksum of all lent bytes after the call, which are 170 each before it.
 """
 import math
-import os
 import struct
-import sys
+
+import frames
 
 POLYGON, MULTIPOLYGON, COLLECTION, TIN, TRIANGLE = 3, 6, 7, 16, 17
 
@@ -455,70 +452,5 @@ def cases():
     return all.frames
 
 
-# ---------------------------------------------------------------------------------------------------------------- the files
-
-
-def checksum(lent):
-    h = 0
-    for byte in lent:
-        h = (h * 31 + byte) % 1000000007
-    return h
-
-
-def stored():
-    """The program's files: each one's path and what this reader computes for it."""
-    folder = os.path.join(os.path.dirname(os.path.dirname(os.path.abspath(__file__))), "crates", "numbers_try")
-    frames, lines = [], []
-    for sheet, room in cases():
-        answer, output = numbers(sheet, room)
-        output = output or b""
-        frames.append(u32(len(sheet)) + u32(room) + sheet)
-        lines.append(b"%d %d\n" % (answer, checksum(output + b"\xaa" * (room - len(output)))))
-    return [(os.path.join(folder, "stdin"), b"".join(frames)), (os.path.join(folder, "stdout"), b"".join(lines))]
-
-
-def write():
-    for path, content in stored():
-        with open(path, "wb") as f:
-            f.write(content)
-
-
-def check():
-    passed = failed = 0
-    for path, content in stored():
-        with open(path, "rb") as f:
-            same = f.read() == content
-        passed, failed = passed + same, failed + (not same)
-        print("%s: %s" % (path, "as computed" if same else "NOT as computed"))
-    print("%d passed, %d failed" % (passed, failed))
-    return failed == 0
-
-
-def vectors(path):
-    agree = differ = 0
-    with open(path) as f:
-        for line in f:
-            words = line.split()
-            if words[:1] == ["input"]:
-                name, sheet = words[1], b"" if words[2] == "." else bytes.fromhex(words[2])
-            elif words[:2] == ["call", "numbers"]:
-                output = None if words[5] == "-" else bytes.fromhex(words[5][1:])
-                mine = numbers(sheet, int(words[3]))
-                if mine == (int(words[4]), output):
-                    agree += 1
-                else:
-                    differ += 1
-                    print("%s, room %s: %s here, %s there" % (name, words[3], mine[0], words[4]))
-    print("%d agree, %d differ" % (agree, differ))
-    return differ == 0
-
-
 if __name__ == "__main__":
-    if sys.argv[1:] == ["--write"]:
-        write()
-    elif sys.argv[1:] == ["--check"]:
-        sys.exit(0 if check() else 1)
-    elif len(sys.argv) == 3 and sys.argv[1] == "--vectors":
-        sys.exit(0 if vectors(sys.argv[2]) else 1)
-    else:
-        sys.exit(__doc__)
+    frames.main(__doc__, lambda: frames.program("numbers_try", cases(), numbers), "numbers", numbers)

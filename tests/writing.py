@@ -8,13 +8,11 @@ Written from document 01 ('Writing uses byte order 1 throughout ..', the table o
     python3 tests/writing.py --vectors FILE    compare with the `write` calls of a file of vectors: 'N agree, M differ'
     python3 tests/writing.py --write           write crates/written/specs/Examples.antt, crates/write_try/stdin and stdout
     python3 tests/writing.py --check           compare these files with what is computed here: 'N passed, M failed'
-
-stdin has a frame for each case: u32 LE length of the numbers, u32 LE number of lent bytes, the numbers. stdout has a line for each: the packed
-answer, a blank, and a checksum of all lent bytes after the call, which are 170 each before it; where 820 bytes are lent, those bytes too.
 """
 import os
 import struct
-import sys
+
+import frames
 
 POLYGON, MULTIPOLYGON, COLLECTION, TIN, TRIANGLE = 3, 6, 7, 16, 17
 
@@ -303,7 +301,7 @@ def truncated(cases):
     cases.add(form[:-1], 0)
 
 
-def frames():
+def cases():
     cases = Cases()
     truncated(cases)
     shapes(cases)
@@ -316,74 +314,11 @@ def frames():
     return cases.frames
 
 
-# ---------------------------------------------------------------------------------------------------------------- the files
-
-
-def checksum(lent):
-    h = 0
-    for byte in lent:
-        h = (h * 31 + byte) % 1000000007
-    return h
-
-
-def line(form, room):
-    packed, output = answer(form, room)
-    lent = (output or b"") + b"\xaa" * (room - len(output or b""))
-    return b"%d %d\n" % (packed, checksum(lent)) + (lent if room == 820 else b"")
-
-
 def stored():
     """The files: each one's path and what this writer computes for it."""
-    crates = os.path.join(os.path.dirname(os.path.dirname(os.path.abspath(__file__))), "crates")
-    cases = frames()
-    return [
-        (os.path.join(crates, "written", "specs", "Examples.antt"), examples().encode()),
-        (os.path.join(crates, "write_try", "stdin"), b"".join(struct.pack("<II", len(f), room) + f for f, room in cases)),
-        (os.path.join(crates, "write_try", "stdout"), b"".join(line(f, room) for f, room in cases)),
-    ]
-
-
-def write():
-    for path, content in stored():
-        with open(path, "wb") as f:
-            f.write(content)
-
-
-def check():
-    passed = failed = 0
-    for path, content in stored():
-        with open(path, "rb") as f:
-            same = f.read() == content
-        passed, failed = passed + same, failed + (not same)
-        print("%s: %s" % (path, "as computed" if same else "NOT as computed"))
-    print("%d passed, %d failed" % (passed, failed))
-    return failed == 0
-
-
-def vectors(path):
-    agree = differ = 0
-    with open(path) as f:
-        for line in f:
-            words = line.split()
-            if words[:1] == ["input"]:
-                name, form = words[1], b"" if words[2] == "." else bytes.fromhex(words[2])
-            elif words[:2] == ["call", "write"]:
-                output = None if words[5] == "-" else bytes.fromhex(words[5][1:])
-                if answer(form, int(words[3])) == (int(words[4]), output):
-                    agree += 1
-                else:
-                    differ += 1
-                    print("%s, room %s differs" % (name, words[3]))
-    print("%d agree, %d differ" % (agree, differ))
-    return differ == 0
+    path = os.path.join(frames.CRATES, "written", "specs", "Examples.antt")
+    return [(path, examples().encode())] + frames.program("write_try", cases(), answer, shown=820)
 
 
 if __name__ == "__main__":
-    if sys.argv[1:] == ["--write"]:
-        write()
-    elif sys.argv[1:] == ["--check"]:
-        sys.exit(0 if check() else 1)
-    elif len(sys.argv) == 3 and sys.argv[1] == "--vectors":
-        sys.exit(0 if vectors(sys.argv[2]) else 1)
-    else:
-        sys.exit(__doc__)
+    frames.main(__doc__, stored, "write", answer)
