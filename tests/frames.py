@@ -1,13 +1,14 @@
-"""What the tests outside Rattle share: the stored input and output of a program under crates/, and the comparison with a file of vectors.
+"""What the tests outside Rattle share: the stored input and output of the program entries_try, and the comparison with a file of vectors.
 
-A program's stdin has a frame for each case: u32 LE length of the input, u32 LE number of lent bytes, the input. Its stdout has a line for each:
-the packed answer, a blank, and a checksum of all lent bytes after the call, which are 170 each before it.
+Its stdin has a frame for each case: a byte for the entry, u32 LE length of the input, u32 LE number of lent bytes, the input. Its stdout has
+a line for each: the packed answer, a blank, and a checksum of all lent bytes after the call, which are 170 each before it.
 """
 import os
 import struct
 import sys
 
 CRATES = os.path.join(os.path.dirname(os.path.dirname(os.path.abspath(__file__))), "crates")
+MOST_FRAMES, LONGEST_INPUT, MOST_LENT = 10_000, 200_000, 160_000  # what the program has room for
 
 
 def checksum(lent):
@@ -17,15 +18,17 @@ def checksum(lent):
     return h
 
 
-def program(name, cases, answer, shown=None):
-    """The program's files, each with its path: cases are (input, room), answer(input, room) is the packed answer and the bytes written (None
-    where it refuses); where the room is `shown`, the lent bytes follow their line."""
+def program(name, entries):
+    """The program's files, each with its path: for each entry its byte, its cases (input, room), and answer(input, room), which is the packed
+    answer and the bytes written (None where it refuses)."""
     frames, lines = [], []
-    for given, room in cases:
-        packed, output = answer(given, room)
-        lent = (output or b"").ljust(room, b"\xaa")
-        frames.append(struct.pack("<II", len(given), room) + given)
-        lines.append(b"%d %d\n" % (packed, checksum(lent)) + (lent if room == shown else b""))
+    for entry, cases, answer in entries:
+        for given, room in cases:
+            assert len(given) <= LONGEST_INPUT and room <= MOST_LENT
+            packed, output = answer(given, room)
+            frames.append(struct.pack("<BII", entry, len(given), room) + given)
+            lines.append(b"%d %d\n" % (packed, checksum((output or b"").ljust(room, b"\xaa"))))
+    assert len(frames) <= MOST_FRAMES
     folder = os.path.join(CRATES, name)
     return [(os.path.join(folder, "stdin"), b"".join(frames)), (os.path.join(folder, "stdout"), b"".join(lines))]
 
@@ -37,14 +40,20 @@ def write(files):
 
 
 def check(files):
-    passed = failed = 0
+    """The outcome of each stored file: is it as computed?"""
+    outcomes = []
     for path, content in files:
         with open(path, "rb") as f:
-            same = f.read() == content
-        passed, failed = passed + same, failed + (not same)
-        print("%s: %s" % (path, "as computed" if same else "NOT as computed"))
-    print("%d passed, %d failed" % (passed, failed))
-    return failed == 0
+            outcomes.append(f.read() == content)
+        print("%s: %s" % (path, "as computed" if outcomes[-1] else "NOT as computed"))
+    return outcomes
+
+
+def tally(outcomes):
+    """The last line of a test; what it answers is the status to end with."""
+    failed = outcomes.count(False)
+    print("%d passed, %d failed" % (len(outcomes) - failed, failed))
+    return 1 if failed else 0
 
 
 def vectors(path, entry, answer):
@@ -63,16 +72,12 @@ def vectors(path, entry, answer):
                     differ += 1
                     print("%s, room %s: %s here, %s there" % (name, words[3], mine[0], words[4]))
     print("%d agree, %d differ" % (agree, differ))
-    return differ == 0
+    return 1 if differ else 0
 
 
-def main(doc, files, entry, answer):
-    """The three ways that a test is called; files() is what it stores."""
-    if sys.argv[1:] == ["--write"]:
-        write(files())
-    elif sys.argv[1:] == ["--check"]:
-        sys.exit(0 if check(files()) else 1)
-    elif len(sys.argv) == 3 and sys.argv[1] == "--vectors":
-        sys.exit(0 if vectors(sys.argv[2], entry, answer) else 1)
-    else:
+def main(doc, **ways):
+    """The ways that a test is called: `--way` with the words that follow it. What a way answers is the status to end with."""
+    way = ways.get(sys.argv[1][2:]) if len(sys.argv) > 1 and sys.argv[1].startswith("--") else None
+    if way is None or len(sys.argv) - 2 != way.__code__.co_argcount:
         sys.exit(doc)
+    sys.exit(way(*sys.argv[2:]))

@@ -1,12 +1,10 @@
 #!/usr/bin/env python3
-"""An independent reader of sheets, and the sheets that the program numbers_try is run on.
+"""An independent reader of sheets, and the sheets that the program entries_try reads (tests/entries.py).
 
 Written from document 01 ('The sheet in WKB', 'Refusal numbers' and what follows) and the choices on what it leaves open about reading
 and numbers (docs/DECISIONS.md) only, by recursive descent over the bytes; nothing of it comes from the Rattle code.
 
     python3 tests/reading.py --vectors FILE    compare with the `numbers` calls of a file of vectors: 'N agree, M differ'
-    python3 tests/reading.py --write           write crates/numbers_try/stdin and stdout
-    python3 tests/reading.py --check           compare these two files with what is computed here: 'N passed, M failed'
 """
 import math
 import struct
@@ -453,4 +451,4 @@ def cases():
 
 
 if __name__ == "__main__":
-    frames.main(__doc__, lambda: frames.program("numbers_try", cases(), numbers), "numbers", numbers)
+    frames.main(__doc__, vectors=lambda file: frames.vectors(file, "numbers", numbers))

@@ -1,13 +1,13 @@
 #!/usr/bin/env python3
-"""An independent writer of sheets, the examples that crates/written/specs/Examples.antt has, and the numbers that the program write_try is
-run on.
+"""An independent writer of sheets, the examples that crates/written/specs/Examples.antt has, and the numbers that the program entries_try
+writes (tests/entries.py).
 
 Written from document 01 ('Writing uses byte order 1 throughout ..', the table of counts, refusal 42) and the choices on what it leaves open
 (docs/DECISIONS.md) only; nothing of it comes from the Rattle definitions.
 
     python3 tests/writing.py --vectors FILE    compare with the `write` calls of a file of vectors: 'N agree, M differ'
-    python3 tests/writing.py --write           write crates/written/specs/Examples.antt, crates/write_try/stdin and stdout
-    python3 tests/writing.py --check           compare these files with what is computed here: 'N passed, M failed'
+    python3 tests/writing.py --write           write crates/written/specs/Examples.antt
+    python3 tests/writing.py --check           compare this file with what is computed here: 'N passed, M failed'
 """
 import os
 import struct
@@ -315,10 +315,13 @@ def cases():
 
 
 def stored():
-    """The files: each one's path and what this writer computes for it."""
-    path = os.path.join(frames.CRATES, "written", "specs", "Examples.antt")
-    return [(path, examples().encode())] + frames.program("write_try", cases(), answer, shown=820)
+    """The file of examples: its path and what this writer computes for it."""
+    return [(os.path.join(frames.CRATES, "written", "specs", "Examples.antt"), examples().encode())]
 
 
 if __name__ == "__main__":
-    frames.main(__doc__, stored, "write", answer)
+    frames.main(
+        __doc__,
+        vectors=lambda file: frames.vectors(file, "write", answer),
+        write=lambda: frames.write(stored()),
+        check=lambda: frames.tally(frames.check(stored())))

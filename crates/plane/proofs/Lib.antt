@@ -6,3 +6,5 @@ pub mod Chains
 pub mod Line
 pub mod Cuts
 pub mod Corners
+pub mod Ways
+pub mod Keys

@@ -4,3 +4,4 @@ pub mod Cuts
 pub mod Boundaries
 pub mod Members
 pub mod Corners
+pub mod Keys

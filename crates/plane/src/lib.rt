@@ -4,6 +4,7 @@ ghost use lib.IntN.{_+ℤ_, _-ℤ_, _*ℤ_};
 ghost use Rattle.whole.specs.Numbers.{Within};
 ghost use Rattle.plane.specs.Points.{_⟶_, samePoint, turn, between};
 ghost use Rattle.plane.specs.Corners.{millimetres, point, Held, InRange};
+ghost use Rattle.plane.specs.Keys.{keyOf, cornerOf, pointAt, Key, pair};
 
 // A corner: each coordinate with 10,000,000 added, so that it is no negative number.
 pub struct Corner {
@@ -51,4 +52,29 @@ pub fn strictly_between(c: Corner, p: Corner, q: Corner) -> bool
         return false;
     }
     0 < products(way(p.x, c.x), way(c.x, q.x), way(p.y, c.y), way(c.y, q.y))
+}
+
+// The number of a corner.
+pub fn key(c: Corner) -> u64
+    ensures { λ r. ⌜ r ≡ keyOf c ⌝ }
+{
+    c.x as u64 * 4_294_967_296 + c.y as u64
+}
+
+// The corner of a number.
+pub fn corner_at(k: u64) -> Corner
+    ensures { λ r. ⌜ r ≡ cornerOf k ⌝ }
+{
+    Corner {
+        x: (k / 4_294_967_296) as u32,
+        y: (k % 4_294_967_296) as u32,
+    }
+}
+
+// The corner numbered c is strictly between those numbered p and q on the straight line.
+pub fn on_way(c: u64, p: u64, q: u64) -> bool
+    requires { ⌜ Key c × Key p × Key q ⌝ }
+    ensures { λ r. ⌜ r ≡ between (pointAt c) (pair p q) ⌝ }
+{
+    strictly_between(corner_at(c), corner_at(p), corner_at(q))
 }

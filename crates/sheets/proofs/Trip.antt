@@ -27,7 +27,7 @@ use Rattle.written.proofs.Sized.{given-fits}
 use Rattle.written.proofs.Trip.{round-trip}
 use Rattle.sheets.specs.Answered.{bytes as wrote}
 use Rattle.sheets.specs.Entries.{heldBytes, sheetNumbers}
-use Rattle.sheets.proofs.Bytes.{all-length}
+use Rattle.sheets.proofs.Bytes.{held-length, all-length}
 
 -- Four bytes are the i32 of their number.
 four : (l : List ℕ) → length l ≡ 4 → All (λ x. x < 256) l → i32 (toZ w32 (number l)) ≡ l
@@ -71,5 +71,5 @@ same-bytes s h n e =
     let g = given-is s n e in
     let r = round-trip n (given-fits s n e) in
     let f : flatMap heldBytes (readingOf (written n) .numbers) ≡ s = held-all (readingOf (written n) .numbers) ∙ ap (flatMap i32) (r .1 ∙ form-is (numbersIn s) n .0 (g .1)) ∙ fours s (g .0) h in
-    let l : 4 * length (readingOf (written n) .numbers) ≡ length s = sym (all-length (readingOf (written n) .numbers)) ∙ ap length f in
+    let l : 4 * length (readingOf (written n) .numbers) ≡ length s = sym (all-length 4 heldBytes held-length (readingOf (written n) .numbers)) ∙ ap length f in
     rw (eq-eqb (readingOf (written n) .code) 0 (r .0)) (λ i. wrote (l i) (f i))

@@ -258,3 +258,9 @@ reads-the-standard s bytes n = (to, from)
 
     from : (g : Geometry) × SheetFits g × (encode g ≡ s) × (sheetOf g ≡ n) → Reads s n
     from h = rw (reading-starts s, ← h .3) (tree-through s (h .0) (h .1) (h .2))
+
+-- Bytes that are read with code 0 are read as a sheet.
+pub reads-some : (s : List ℕ) → All (λ b. b < 256) s → readingOf s .code ≡ 0 → (n : Sheet) × Reads s n
+reads-some s bytes code =
+    let t = tree-back s bytes (rw (reading-starts s) at code) in
+    (sheetOf (t .0), rw (reading-starts s) (tree-through s (t .0) (t .1) (t .2)))

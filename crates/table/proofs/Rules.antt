@@ -2,10 +2,10 @@
 -- The idea for rule B: a side repeats exactly if it stands twice among all sides, since a triangle with an area has three different
 -- sides; so the sides of the earlier triangles and of those to come are counted together. Assumes nothing.
 use mathlib.Core.Path.{_≡_, refl, sym, _∙_, ap, subst}
-use mathlib.Core.Logic.{_↔_}
+use mathlib.Core.Logic.{_↔_, _⊎_, inl, inr}
 use mathlib.Core.Bool.{Bool, true, false, not, cond}
 use mathlib.Core.List.{List, [], _∷_, flatMap}
-use mathlib.Core.Option.{Option, none, some}
+use mathlib.Core.Option.{Option, none, some, Option·none-ne-some, Option·some-injective}
 use Prim.Native.Nat.{ℕ, suc, _+_, _≤_}
 use native.Mathlib.Omega.{arith}
 use native.Mathlib.Decide.{decLe}
@@ -160,3 +160,47 @@ passes table = (
         go : (c : Bool) → T c → cond c passed (refused 12 0) ≡ passed
         go true t = refl
         go false t = absurd t
+
+-- ---- the refusals, each exactly if its rule is the first that fails
+-- The first member that fails a test, by its number: it does, and none before it does.
+abbrev pub FirstFault : {A : Type 0} → (List A → A → Bool) → List A → List A → ℕ → Type 0
+FirstFault bad before [] n = ⊥
+FirstFault bad before (a ∷ l) n = (T (bad before a) × (n ≡ suc (length before))) ⊎ ((T (bad before a) → ⊥) × FirstFault bad (a ∷ before) l n)
+
+first-fault : {A : Type 0} (bad : List A → A → Bool) (before l : List A) (n : ℕ) → firstFault bad before l ≡ some n → FirstFault bad before l n
+first-fault bad before [] n e = absurd (Option·none-ne-some n e)
+first-fault bad before (a ∷ l) n e = go (bad before a) (first-fault bad (a ∷ before) l n) e
+  where
+    go : (b : Bool) → (firstFault bad (a ∷ before) l ≡ some n → FirstFault bad (a ∷ before) l n)
+        → _≡_ {A = Option ℕ} (elim b [ true ↦ some (suc (length before)) | false ↦ firstFault bad (a ∷ before) l ]) (some n)
+        → (T b × (n ≡ suc (length before))) ⊎ ((T b → ⊥) × FirstFault bad (a ∷ before) l n)
+    go true r e = inl (tt, sym (Option·some-injective (suc (length before)) n e))
+    go false r e = inr (λ t. t, r e)
+
+-- 10 with the first triangle that has no area above 0; 11, where all have, with the first that has a side of an earlier one; 12 where these two
+-- rules hold and rule C fails.
+abbrev pub Refusal : List Triangle → ℕ → ℕ → Type 0
+Refusal table number item =
+    ((number ≡ 10) × FirstFault flat [] table item) ⊎ ((number ≡ 11) × RuleA table × FirstFault repeats [] table item) ⊎ ((number ≡ 12) × (item ≡ 0) × RuleA table × RuleB table × (RuleC table → ⊥))
+
+pub refused-as : (table : List Triangle) (number item : ℕ) → checkTable table ≡ refused number item → Refusal table number item
+unfolding checkTable
+refused-as table number item = go (firstFault flat [] table) refl (firstFault repeats [] table) refl (agree (sidesOf table) (allPieces (corners table) (edges (frame (corners table))))) refl
+  where
+    go : (a : Option ℕ) → firstFault flat [] table ≡ a → (b : Option ℕ) → firstFault repeats [] table ≡ b
+        → (c : Bool) → agree (sidesOf table) (allPieces (corners table) (edges (frame (corners table)))) ≡ c
+        → refuse 10 a (refuse 11 b (cond c passed (refused 12 0))) ≡ refused number item → Refusal table number item
+    go (some k) p b q c r e =
+        let n : number ≡ 10 = cc e in
+        let i : k ≡ item = cc e in
+        inl (n, subst (FirstFault flat [] table) i (first-fault flat [] table k p))
+    go none p (some k) q c r e =
+        let n : number ≡ 11 = cc e in
+        let i : k ≡ item = cc e in
+        inr (inl (n, rule-A [] table .0 (no-fault flat [] table .0 p), subst (FirstFault repeats [] table) i (first-fault repeats [] table k q)))
+    go none p none q true r e = absurd (let z : _≡_ {A = ℕ} 0 1 = cc e in omega arith)
+    go none p none q false r e =
+        let n : number ≡ 12 = cc e in
+        let i : item ≡ 0 = cc e in
+        let a = rule-A [] table .0 (no-fault flat [] table .0 p) in
+        inr (inr (n, i, a, rule-B table a .0 (no-fault repeats [] table .0 q), λ h. subst T r (agree-is _ _ .1 h)))

@@ -5,12 +5,12 @@ use mathlib.Core.Path.{_≡_, refl, sym, _∙_, ap, ap₂, subst}
 use mathlib.Core.Logic.{_↔_}
 use mathlib.Core.Bool.{Bool, true, false, _&&_}
 use mathlib.Core.List.{List, [], _∷_, _++_, map, flatMap, append-assoc}
-use Prim.Native.Nat.{ℕ, zero, suc, _+_, _≤_}
+use Prim.Native.Nat.{ℕ, zero, suc, _+_, _≤_, _<_}
 use native.Mathlib.Omega.{arith}
 use native.Mathlib.Decide.{decLe}
 use lib.Dec.{T}
 use lib.IntN.{ℤ, pos, negℤ, _+ℤ_, _-ℤ_, +ℤ-idl, +ℤ-assoc}
-use lib.ListN.{length, length-append}
+use lib.ListN.{length, getD, take, length-append}
 use Rattle.whole.specs.Sums.{All, every, any, sum, bit, count, net}
 use Rattle.whole.proofs.Int.{zify, self-neg}
 use Rattle.whole.specs.Polynomials.{_:+_, _:-_, :-_, _:=_}
@@ -42,6 +42,10 @@ pub bit-no : (b : Bool) → (T b → ⊥) → bit b ≡ 0
 bit-no true f = absurd (f tt)
 bit-no false f = refl
 
+pub bit-small : (b : Bool) → bit b ≤ 1
+bit-small true = omega arith
+bit-small false = omega arith
+
 pub bit-yes : (b : Bool) → T b → bit b ≡ 1
 bit-yes true t = refl
 bit-yes false t = absurd t
@@ -67,6 +71,21 @@ module _ {A : Type 0} where
   pub all-map : (P Q : A → Type 0) → ((a : A) → P a → Q a) → (l : List A) → All P l → All Q l
   all-map P Q f [] h = tt
   all-map P Q f (a ∷ l) h = (f a (h .0), all-map P Q f l (h .1))
+
+  -- What each member has, the member at a place has; and the other way round.
+  pub all-at : (P : A → Type 0) (d : A) (l : List A) (i : ℕ) → All P l → i < length l → P (getD l i d)
+  all-at P d [] i h k = absurd (omega arith)
+  all-at P d (a ∷ l) zero h k = h .0
+  all-at P d (a ∷ l) (suc i) h k = all-at P d l i (h .1) (omega arith)
+
+  pub all-from : (P : A → Type 0) (d : A) (l : List A) → ((i : ℕ) → i < length l → P (getD l i d)) → All P l
+  all-from P d [] f = tt
+  all-from P d (a ∷ l) f = (f 0 (omega arith), all-from P d l (λ i h. f (suc i) (omega arith)))
+
+  pub all-take : (P : A → Type 0) (n : ℕ) (l : List A) → All P l → All P (take n l)
+  all-take P zero l h = tt
+  all-take P (suc n) [] h = tt
+  all-take P (suc n) (a ∷ l) h = (h .0, all-take P n l (h .1))
 
   pub every-all : (p : A → Bool) (P : A → Type 0) → ((a : A) → T (p a) → P a) → (l : List A) → T (every p l) → All P l
   every-all p P f [] t = tt
@@ -101,6 +120,10 @@ all-flatMap P Q g f (a ∷ l) h = all-++ Q (g a) (flatMap g l) (f a (h .0)) (all
 pub all-image : {A B : Type 0} (f : A → B) (Q : B → Type 0) (l : List A) → All (λ a. Q (f a)) l → All Q (map f l)
 all-image f Q [] h = tt
 all-image f Q (a ∷ l) h = (h .0, all-image f Q l (h .1))
+
+pub map-++ : {A B : Type 0} (f : A → B) (k l : List A) → map f (k ++ l) ≡ map f k ++ map f l
+map-++ f [] l = refl
+map-++ f (a ∷ k) l = ap (λ m. f a ∷ m) (map-++ f k l)
 
 pub flatMap-++ : {A B : Type 0} (g : A → List B) (l m : List A) → flatMap g (l ++ m) ≡ flatMap g l ++ flatMap g m
 unfolding flatMap

@@ -1,7 +1,7 @@
 -- Walks one behind the other: where the first goes well, what both emit is emitted in one, and the second's bytes stand behind the first's; where
 -- it does not, nothing is emitted. Assumes nothing.
 use mathlib.Core.Path.{_≡_, refl, sym, _∙_, ap, subst}
-use mathlib.Core.Bool.{Bool, true, false, not, true≢false}
+use mathlib.Core.Bool.{true, false, true≢false}
 use mathlib.Core.List.{List}
 use mathlib.Core.Option.{Option, none, some}
 use Prim.Native.Nat.{ℕ, suc}
@@ -19,15 +19,6 @@ pub record Well (x : Option Emitted) (nums : List ℤ) (w : Walk) (o : List ℕ)
   pub what : Emitted
   pub is : x ≡ some what
   pub gone : Gone what nums w o v p
-
--- A test that was turned round.
-pub turned-off : (b : Bool) → not b ≡ true → b ≡ false
-turned-off true e = sym e
-turned-off false e = refl
-
-pub turned-on : (b : Bool) → not b ≡ false → b ≡ true
-turned-on true e = refl
-turned-on false e = sym e
 
 module _ (nums : List ℤ) where
   pub well : (x : Option Emitted) (w v : Walk) (o p : List ℕ) → Went x nums w o v p → v .good ≡ true → Well x nums w o v p

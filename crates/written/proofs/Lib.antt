@@ -6,4 +6,5 @@ mod Normal
 pub mod Sized
 mod Read
 pub mod Trip
+pub mod Held
 pub mod Examples

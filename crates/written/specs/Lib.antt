@@ -3,4 +3,5 @@ pub mod Form
 pub mod Fits
 pub mod Given
 pub mod Normal
+pub mod Held
 pub mod Examples

@@ -1,28 +1,19 @@
 -- `sheets::sheet_numbers` meets its contract: what reading left in the work array are the sheet's numbers, since no sheet within the limits
 -- has more than it holds. Assumes nothing.
-use mathlib.Core.List.{List, flatMap}
-use mathlib.Core.Path.{_≡_, sym, _∙_, ap}
-use Prim.Native.Nat.{ℕ, _≤_}
+use mathlib.Core.List.{flatMap}
+use mathlib.Core.Path.{sym, _∙_}
 use native.Mathlib.Omega.{arith}
 use denote.Ref.{now}
-use lib.ListN.{length, replicate, length-replicate}
+use lib.ListN.{replicate}
 use Rattle.sheet.specs.Reading.{readingOf}
-use Rattle.sheet.specs.Going.{laid}
 use Rattle.sheet.proofs.Fit.{numbers-fit}
-use Rattle.sheet.proofs.Laid.{length-laid}
 use Rattle.sheets.specs.Entries.{heldBytes}
-use Rattle.sheets.proofs.Bytes.{all-length, written}
+use Rattle.sheets.proofs.Bytes.{held-length, all-length, written}
+use Rattle.sheets.proofs.Room.{room, enough}
 use Rattle.sheets.proofs.Outcomes.{refused-is, sheet-is, answered-refusal, answered-short, answered-bytes}
 use borrow.Author.Needs.{needs}
 use Rattle.sheets.proofs.sheet_numbers.Statement.{statement}
 use Rattle.sheets.proofs.sheet_numbers.Tie as tie
-
--- The work array holds 16,450 numbers, before and after.
-room : (last l : List ℕ) → last ≡ laid l (replicate 16450 0) → length last ≡ 16450
-room last l e = ap length e ∙ length-laid l (replicate 16450 0) ∙ length-replicate {A = ℕ} 16450 0
-
-enough : {n : ℕ} → n ≤ 16450 → n ≤ length (replicate {A = ℕ} 16450 0)
-enough {n} h = rw (length-replicate {A = ℕ} 16450 0) h
 
 slice-aggregate-read : tie.Need-slice-aggregate-read
 slice-aggregate-read c = search needs
@@ -49,7 +40,7 @@ enum-known-ending-2 : tie.Need-enum-known-ending-2
 enum-known-ending-2 c = search needs
 
 returns : tie.Need-returns
-returns c = let s = now (c .before .before .before .before .before .before .before .before .before .args .sheet) in let e = sheet-is (readingOf s) _ (sym (c .before .before .before .before .before .read .ensures .0) ∙ c .before .before .ending2 .given .1) in answered-short _ _ _ (flatMap heldBytes (readingOf s .numbers)) (e .0) (omega (arith, all-length (readingOf s .numbers), e .1))
+returns c = let s = now (c .before .before .before .before .before .before .before .before .before .args .sheet) in let e = sheet-is (readingOf s) _ (sym (c .before .before .before .before .before .read .ensures .0) ∙ c .before .before .ending2 .given .1) in answered-short _ _ _ (flatMap heldBytes (readingOf s .numbers)) (e .0) (omega (arith, all-length 4 heldBytes held-length (readingOf s .numbers), e .1))
 
 slice-aggregate-write : tie.Need-slice-aggregate-write
 slice-aggregate-write c = search needs
@@ -77,7 +68,7 @@ returns-3 : tie.Need-returns-3
 returns-3 c =
     let s = now (c .before .before .before .before .before .before .before .before .before .before .before .before .before .before .args .sheet) in
     let e = sheet-is (readingOf s) _ (sym (c .before .before .before .before .before .before .before .before .before .before .read .ensures .0) ∙ c .before .before .before .before .before .before .before .ending2 .given .1) in
-    let l = all-length (readingOf s .numbers) in
+    let l = all-length 4 heldBytes held-length (readingOf s .numbers) in
     answered-bytes _ _ _ (flatMap heldBytes (readingOf s .numbers)) (e .0) _ (omega (arith, l, e .1)) (c .before .before .write .ensures ∙ written (readingOf s .numbers) (replicate 16450 0) _ _ _ (c .before .before .before .before .before .before .before .before .before .before .read .ensures .1) (enough (numbers-fit s (e .2))) (e .1))
 
 pub sheet-numbers-spec : {M : Type 1} → statement M

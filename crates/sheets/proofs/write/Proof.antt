@@ -8,7 +8,7 @@ use denote.Ref.{now}
 use lib.ListN.{length, getD, take, drop}
 use lib.Seq.{sets, length-sets}
 use Rattle.sheets.specs.Entries.{heldBytes}
-use Rattle.sheets.proofs.Bytes.{one-more}
+use Rattle.sheets.proofs.Bytes.{held-length, one-more}
 use Rattle.sheets.proofs.write.Statement.{statement}
 use Rattle.sheets.proofs.write.Tie as tie
 
@@ -45,7 +45,7 @@ loop-again c =
     let l = c .before .before .before .before .before .before .loop in
     let a = c .before .before .before .before .before .before .before .before .before .args in
     let p = c .before .before .put .ensures in
-    (omega arith, ap length p ∙ length-sets (l .out) (4 * l .i) (heldBytes (getD (now (a .numbers)) (l .i) 0)) ∙ l .inv .1, p ∙ ap (λ o. sets o (4 * l .i) (heldBytes (getD (now (a .numbers)) (l .i) 0))) (l .inv .2) ∙ one-more (now (a .numbers)) (now (a .out)) (l .i) (omega arith) (omega arith))
+    (omega arith, ap length p ∙ length-sets (l .out) (4 * l .i) (heldBytes (getD (now (a .numbers)) (l .i) 0)) ∙ l .inv .1, p ∙ ap (λ o. sets o (4 * l .i) (heldBytes (getD (now (a .numbers)) (l .i) 0))) (l .inv .2) ∙ one-more 4 heldBytes held-length (now (a .numbers)) (now (a .out)) (l .i) (omega arith) (omega arith))
 
 same-length : tie.Need-same-length Inv-loop μ-loop
 same-length c = c .before .loop .inv .1

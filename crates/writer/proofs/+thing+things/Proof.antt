@@ -7,11 +7,12 @@ use native.Mathlib.Omega.{arith}
 use borrow.Author.Needs.{needs}
 use denote.Ref.{now}
 use lib.ListN.{length, drop}
+use Rattle.whole.proofs.Tests.{turned-off, turned-on}
 use Rattle.written.specs.Form.{numbersIn}
 use Rattle.writer.specs.declared.Walk.{Walk}
 use Rattle.writer.specs.Emit.{closes, emitMany, emit}
 use Rattle.writer.specs.Walks.{Fair, Went}
-use Rattle.writer.proofs.Goes.{turned-off, turned-on, went-nowhere, went-length, went-fair, many-none, many-more, many-stops}
+use Rattle.writer.proofs.Goes.{went-nowhere, went-length, went-fair, many-none, many-more, many-stops}
 use Rattle.writer.proofs.Levels.{emit-end, emit-miscounted, emit-open, last-number, next-number, number-stands, number-within, head-fair, thing-goes}
 use Prim.Native.Nat.{ℕ, suc, _+_, _-_, _*_, _≤_, _<_}
 use borrow.Fn.Kinds.{In}

@@ -1,9 +1,10 @@
 -- `writer::body` meets its contract: the headers, the table and the polygons one behind the other. Assumes nothing.
 use denote.Ref.{now}
 use lib.ListN.{drop}
+use Rattle.whole.proofs.Tests.{turned-off, turned-on}
 use Rattle.written.specs.Form.{numbersIn}
 use Rattle.writer.specs.Emit.{emitMany, emitPiece}
-use Rattle.writer.proofs.Goes.{turned-off, turned-on, went-fair}
+use Rattle.writer.proofs.Goes.{went-fair}
 use Rattle.writer.proofs.Wholes.{tablePlace, table-fair, unpointed-fair, body-stops, body-goes}
 use borrow.Author.Needs.{needs}
 use Rattle.writer.proofs.body.Statement.{statement}

@@ -2,9 +2,10 @@
 use native.Mathlib.Omega.{arith}
 use denote.Ref.{now}
 use lib.ListN.{drop}
+use Rattle.whole.proofs.Tests.{turned-off, turned-on}
 use Rattle.written.specs.Form.{numbersIn}
 use Rattle.writer.specs.Emit.{emitMany, emit, emitPiece}
-use Rattle.writer.proofs.Goes.{turned-off, turned-on, went-length}
+use Rattle.writer.proofs.Goes.{went-length}
 use Rattle.writer.proofs.Numbers.{numbers-length}
 use Rattle.writer.proofs.Triangles.{ringed, closing, ringed-fair, went-near, piece-none, piece-stops, piece-goes}
 use borrow.Author.Needs.{needs}

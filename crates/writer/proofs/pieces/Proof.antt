@@ -6,11 +6,12 @@ use native.Mathlib.Omega.{arith}
 use borrow.Author.Needs.{needs}
 use denote.Ref.{now}
 use lib.ListN.{length, drop}
+use Rattle.whole.proofs.Tests.{turned-off, turned-on}
 use Rattle.written.specs.Form.{numbersIn}
 use Rattle.writer.specs.declared.Walk.{Walk}
 use Rattle.writer.specs.Emit.{emitMany, emitPiece}
 use Rattle.writer.specs.Walks.{Fair, Went}
-use Rattle.writer.proofs.Goes.{turned-off, turned-on, well, went-length, went-fair, many-none, many-more, many-stops}
+use Rattle.writer.proofs.Goes.{well, went-length, went-fair, many-none, many-more, many-stops}
 use Rattle.writer.proofs.pieces.Statement.{statement}
 use Rattle.writer.proofs.pieces.Tie as tie
 

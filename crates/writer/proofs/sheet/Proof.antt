@@ -7,9 +7,9 @@ use native.Mathlib.Nat.{lt-irrefl}
 use native.Mathlib.Omega.{arith}
 use denote.Ref.{now}
 use lib.ListN.{length}
+use Rattle.whole.proofs.Tests.{turned-off, turned-on}
 use Rattle.written.specs.Form.{numbersIn}
 use Rattle.writer.proofs.Counts.{within-limits, below-limits, above-limits, ends-nowhere, bad-triangles, first, no-place, bad-count, good-count}
-use Rattle.writer.proofs.Goes.{turned-off, turned-on}
 use Rattle.writer.proofs.Levels.{last-number}
 use Rattle.writer.proofs.Numbers.{numbers-length}
 use Rattle.writer.proofs.Wholes.{no-numbers, ends-wrong, ends-over, ends-well}

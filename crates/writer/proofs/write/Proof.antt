@@ -2,8 +2,8 @@
 -- writes it. Assumes nothing.
 use native.Mathlib.Omega.{arith}
 use denote.Ref.{now}
+use Rattle.whole.proofs.Tests.{turned-off, turned-on}
 use Rattle.writer.proofs.Gives.{given-odd, given-long, ended-ill, ended-well, written-again, comes-refused, comes-short, comes-bytes}
-use Rattle.writer.proofs.Goes.{turned-off, turned-on}
 use Rattle.writer.proofs.Numbers.{numbers-length}
 use borrow.Author.Needs.{needs}
 use Rattle.writer.proofs.write.Statement.{statement}

@@ -1,0 +1,4 @@
+-- The laws of codes.
+pub mod Stored
+pub mod Numbered
+pub mod Looked

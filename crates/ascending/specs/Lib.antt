@@ -1,0 +1,2 @@
+-- Numbers in ascending order, each once.
+pub mod Ascending

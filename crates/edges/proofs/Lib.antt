@@ -1,0 +1,4 @@
+-- The theorems of laying edges down.
+pub mod Stores
+pub mod Walk
+pub mod Triangles

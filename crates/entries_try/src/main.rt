@@ -1,0 +1,127 @@
+// Calls the entries as the frames of standard input say, and prints for each frame what was answered and a checksum of the lent bytes.
+// A frame: a byte for the entry, u32 LE length of its input, u32 LE number of lent bytes, the input. tests/entries.py makes the frames and
+// the expected lines.
+ghost use mathlib.Core.Path.{_≡_};
+ghost use Prim.Native.Nat.{_+_, _≤_, _<_};
+ghost use lib.ListN.{length};
+
+// A byte as a number.
+fn wide(b: u8) -> usize
+    ensures { λ r. ⌜ r < 256 ⌝ }
+{
+    b as usize
+}
+
+// The little-endian u32 at a place of a frame.
+fn number(frame: &[u8], at: usize) -> usize
+    requires { ⌜ at + 4 ≤ length (now frame) ⌝ }
+{
+    wide(frame[at])
+        + 256 * wide(frame[at + 1])
+        + 65_536 * wide(frame[at + 2])
+        + 16_777_216 * wide(frame[at + 3])
+}
+
+// The checksum of all the bytes, so that a change at any place shows.
+fn checksum(bytes: &[u8]) -> u64
+    ensures { λ r. ⌜ r < 1000000007 ⌝ }
+{
+    let mut h: u64 = 0;
+    let mut i: usize = 0;
+    while i < bytes.len() {
+        h = (h * 31 + wide(bytes[i]) as u64) % 1_000_000_007;
+        i += 1;
+    }
+    h
+}
+
+// Prints a line: the answer and the checksum.
+fn line(answer: u64, sum: u64) {
+    io::print_decimal(1, answer);
+    io::write_all(1, b" ");
+    io::print_decimal(1, sum);
+    io::write_all(1, b"\n");
+}
+
+// What the entry answers: 0 numbers, 1 write, 2 owner sets. Any other answers 255, a code that no entry gives.
+fn answer(entry: u8, input: &[u8], lent: &mut [u8]) -> u64 {
+    match entry {
+        0 => sheets::sheet_numbers(input, lent),
+        1 => sheets::sheet_write(input, lent),
+        2 => sheets::sheet_owner_sets(input, lent),
+        _ => 255,
+    }
+}
+
+// Calls the entry with the lent bytes, and prints its line.
+fn call(entry: u8, input: &[u8], lent: &mut [u8]) {
+    let answer = answer(entry, input, lent);
+    let sum = checksum(lent);
+    line(answer, sum);
+}
+
+// Room for the longest input.
+fn room_to_read() -> [u8; 200000]
+    ensures { λ r. ⌜ 200000 ≡ length r ⌝ }
+{
+    [0; 200_000]
+}
+
+// The bytes to lend, each 170.
+fn room_to_lend() -> [u8; 160000]
+    ensures { λ r. ⌜ 160000 ≡ length r ⌝ }
+{
+    [170; 160_000]
+}
+
+// At most 160,000, the bytes that there are to lend.
+fn capped(room: usize) -> usize
+    ensures { λ r. ⌜ r ≤ 160000 ⌝ }
+{
+    if room < 160_000 { room } else { 160_000 }
+}
+
+// The call of a frame whose input was read: so many lent bytes, each 170 before.
+fn lend(entry: u8, input: &[u8], room: usize)
+    requires { ⌜ room ≤ 160000 ⌝ }
+{
+    let mut lent = room_to_lend();
+    call(entry, input, &mut lent[..room]);
+}
+
+// Reads a frame's input and makes its call; false where the input is cut short.
+fn read(entry: u8, input: &mut [u8], room: usize) -> bool
+    requires { ⌜ room ≤ 160000 ⌝ }
+{
+    if io::read_full(0, input) < input.len() {
+        return false;
+    }
+    lend(entry, input, room);
+    true
+}
+
+// One frame; false at the end of the frames, or at one that is cut short or too long.
+fn frame() -> bool {
+    let mut head = [0u8; 9];
+    if io::read_full(0, &mut head) < 9 {
+        return false;
+    }
+    let size = number(&head, 1);
+    let room = capped(number(&head, 5));
+    if size > 200_000 {
+        return false;
+    }
+    let mut input = room_to_read();
+    read(head[0], &mut input[..size], room)
+}
+
+// The frames one after another, at most 10,000.
+fn main() {
+    let mut left: usize = 10_000;
+    while left > 0 {
+        if !frame() {
+            return;
+        }
+        left -= 1;
+    }
+}

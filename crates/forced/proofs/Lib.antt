@@ -1,0 +1,2 @@
+-- The laws of such an order.
+pub mod Meeting

@@ -1,0 +1,2 @@
+-- An order in which labels are forced.
+pub mod Meeting

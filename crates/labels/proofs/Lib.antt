@@ -1,0 +1,2 @@
+-- The laws of labels.
+pub mod Forcing

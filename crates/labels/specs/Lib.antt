@@ -1,0 +1,2 @@
+-- Labels forced from side to side.
+pub mod Labels

@@ -1,0 +1,3 @@
+-- The laws of owner sets.
+pub mod Bits
+pub mod Owning

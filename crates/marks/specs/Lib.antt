@@ -1,0 +1,2 @@
+-- The owners of a triangle as one 64-bit set.
+pub mod Marks

@@ -1,0 +1,2 @@
+-- From a sheet in numbers to its owner sets.
+pub mod Owning

@@ -1,0 +1,35 @@
+-- Corners as one number each, so that the order of the numbers is the order of the corners by x, then by y.
+use mathlib.Core.List.{List, [], _∷_, map}
+use Prim.Native.Nat.{ℕ, _+_, _*_, _/_, _%_, _^_}
+use Rattle.plane.specs.declared.Corner.{Corner}
+use Rattle.plane.specs.Points.{Point, Edge, _⟶_}
+use Rattle.plane.specs.Corners.{point, InRange}
+
+-- A corner's number: its first coordinate, as it is held, times 2^32, and its second.
+abbrev pub keyOf : Corner → ℕ
+keyOf c = c .x * 2 ^ 32 + c .y
+
+-- The corner, and the point, of a number.
+abbrev pub cornerOf : ℕ → Corner
+cornerOf k = record { x = k / 2 ^ 32; y = k % 2 ^ 32 }
+
+unfoldable pub pointAt : ℕ → Point
+pointAt k = point (cornerOf k)
+
+-- The number of a corner with coordinates from -10,000,000 to 10,000,000.
+abbrev pub Key : ℕ → Type 0
+Key k = InRange (cornerOf k)
+
+-- The ordered pair of two corners.
+abbrev pub pair : ℕ → ℕ → Edge
+pair u v = pointAt u ⟶ pointAt v
+
+-- The points of a list of numbers.
+abbrev pub pointsAt : List ℕ → List Point
+pointsAt = map pointAt
+
+-- The edges from the corners of one list to those of another, one by one.
+abbrev pub pairs : List ℕ → List ℕ → List Edge
+pairs [] l = []
+pairs (u ∷ k) [] = []
+pairs (u ∷ k) (v ∷ l) = pair u v ∷ pairs k l

@@ -1,0 +1,86 @@
+-- The table as the code holds it: its corners as numbers, three for each triangle; its sides in table order, by triangle and then ab, bc, ca.
+use mathlib.Core.Path.{_≡_}
+use mathlib.Core.Bool.{Bool, false, cond}
+use mathlib.Core.List.{List, [], _∷_, map}
+use mathlib.Core.Option.{Option, none, some}
+use Prim.Native.Nat.{ℕ, zero, suc, _-_, _*_, _/_, _%_, _<_}
+use lib.IntN.{ℤ, pos, _-ℤ_}
+use lib.ListN.{length, getD}
+use Rattle.whole.specs.Sums.{All, bit}
+use Rattle.plane.specs.Points.{Edge, Triangle, flip, sameEdge}
+use Rattle.plane.specs.Keys.{pointAt, pair}
+
+-- The triangles whose corners these are.
+abbrev pub trianglesOf : List ℕ → List Triangle
+trianglesOf [] = []
+trianglesOf (a ∷ []) = []
+trianglesOf (a ∷ b ∷ []) = []
+trianglesOf (a ∷ b ∷ c ∷ l) = record { a = pointAt a; b = pointAt b; c = pointAt c } ∷ trianglesOf l
+
+-- The corner at which each side ends: side k runs from corner k to this one. Side k is of triangle k / 3, counted from 0.
+abbrev pub tailsOf : List ℕ → List ℕ
+tailsOf [] = []
+tailsOf (a ∷ []) = []
+tailsOf (a ∷ b ∷ []) = []
+tailsOf (a ∷ b ∷ c ∷ l) = b ∷ c ∷ a ∷ tailsOf l
+
+abbrev pub sideAt : List ℕ → ℕ → Edge
+sideAt keys k = pair (getD keys k 0) (getD (tailsOf keys) k 0)
+
+-- The number, counted from 1, of the first pair of a list that is e; 0 where there is none.
+abbrev pub later : ℕ → ℕ
+later zero = 0
+later (suc n) = suc (suc n)
+
+abbrev pub foundAt : Edge → List Edge → ℕ
+foundAt e [] = 0
+foundAt e (x ∷ l) = cond (sameEdge x e) 1 (later (foundAt e l))
+
+-- For each side the number of the side that is its reverse, 0 where the table has none: the triangle across it is that side's.
+unfoldable pub opposites : List Edge → List ℕ
+opposites sides = map (λ e. foundAt (flip e) sides) sides
+
+-- What a set of triangles has across a side, by the number of its reverse: 1 where the triangle there is in the set.
+abbrev pub mark : List Bool → ℕ → ℕ
+mark s t = bit (getD s t false)
+
+abbrev pub across : List Bool → ℕ → ℕ
+across s zero = 0
+across s (suc o) = mark s (o / 3)
+
+-- The boundary of a set of triangles at a side: 1 for the side's own triangle, less 1 for the triangle across.
+abbrev pub share : List ℕ → List Bool → ℕ → ℤ
+share opposite s k = pos (mark s (k / 3)) -ℤ pos (across s (getD opposite k 0))
+
+-- A net count is held as itself plus 2,147,483,648.
+abbrev pub netOf : ℕ → ℤ
+netOf n = pos n -ℤ pos 2147483648
+
+-- The counts at all sides are those of the set's boundary.
+abbrev pub Shares : List ℕ → List ℕ → List Bool → Type 0
+Shares opposite counts s = (k : ℕ) → k < length opposite → netOf (getD counts k 0) ≡ share opposite s k
+
+-- An order in which labels are forced: a list of sides, each without a reverse or with the triangle across it met earlier; each triangle
+-- is met by one of its sides.
+pub record Reaches (opposite order : List ℕ) : Type 0 where
+  pub sides : All (λ k. k < length opposite) order
+  pub earlier : (i o : ℕ) → i < length order → getD opposite (getD order i 0) 0 ≡ suc o → (j : ℕ) × (j < i) × (getD order j 0 / 3 ≡ o / 3)
+  pub all : (t : ℕ) → 3 * t < length opposite → (i : ℕ) × (i < length order) × (getD order i 0 / 3 ≡ t)
+
+-- The item of a fault found: the triangle's number; 0 where there is none.
+abbrev pub itemOf : Option ℕ → ℕ
+itemOf none = 0
+itemOf (some n) = n
+
+-- A side of an earlier triangle is the same as side k. (Sides by their codes, which are equal exactly if the sides are the same ordered pair.)
+abbrev pub Earlier : List ℕ → ℕ → Type 0
+Earlier codes k = (j : ℕ) × (j < k - k % 3) × (getD codes j 0 ≡ getD codes k 0)
+
+-- No side below the n-th is one of an earlier triangle.
+abbrev pub NoneBelow : List ℕ → ℕ → Type 0
+NoneBelow codes n = (k : ℕ) → k < n → Earlier codes k → ⊥
+
+-- The number, counted from 1, of the triangle of the first side that is one of an earlier triangle; 0 where there is no such side.
+abbrev pub FirstRepeat : List ℕ → ℕ → Type 0
+FirstRepeat codes zero = NoneBelow codes (length codes)
+FirstRepeat codes (suc t) = (k : ℕ) × (k < length codes) × (t ≡ k / 3) × Earlier codes k × NoneBelow codes k
