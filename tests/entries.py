@@ -7,14 +7,18 @@
 import frames
 import owning
 import reading
+import repairing
 import writing
 
 
 def stored():
+    numbers, bounds = repairing.cases()
     return frames.program("entries_try", [
         (0, reading.cases(), reading.numbers),
         (1, writing.cases(), writing.answer),
         (2, owning.cases(), owning.owner_sets),
+        (3, numbers, repairing.owners),
+        (4, bounds, repairing.boundary),
     ])
 
 

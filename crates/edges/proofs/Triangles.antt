@@ -1,7 +1,7 @@
 -- The table at the front of the held numbers: six numbers for each triangle, one corner behind the other. Assumes nothing.
 use mathlib.Core.Path.{_≡_, refl, sym, _∙_, ap, ap₂, subst}
 use mathlib.Core.List.{List, [], _∷_, _++_, map, flatMap}
-use Prim.Native.Nat.{ℕ, suc, _+_, _*_, _≤_, _<_}
+use Prim.Native.Nat.{ℕ, zero, suc, _+_, _*_, _≤_, _<_}
 use native.Mathlib.Omega.{arith}
 use native.Mathlib.Decide.{decLe}
 use lib.IntN.{ℤ}
@@ -98,3 +98,32 @@ module _ (numbers : List ℕ) (held : All Held numbers) where
   pub laid-table : (keys : List ℕ) → Laying numbers 1 keys (length keys) → (table : List Triangle) (rest : List ℤ) → Stands (counted triangleNumbers) numbers 0 table rest
       → length keys ≡ 3 * length table → trianglesOf keys ≡ table
   laid-table keys w table rest s h = laid-triangles 1 keys w table rest (count-first triangleNumbers numbers 0 table rest s .2) h
+
+-- The numbers of so many corners, which stand from the place on.
+abbrev keysFrom : List ℕ → ℕ → ℕ → List ℕ
+keysFrom numbers at zero = []
+keysFrom numbers at (suc n) = keyOf (cornerAt numbers at) ∷ keysFrom numbers (at + 2) n
+
+length-keys : (numbers : List ℕ) (at n : ℕ) → length (keysFrom numbers at n) ≡ n
+length-keys numbers at zero = refl
+length-keys numbers at (suc n) = ap suc (length-keys numbers (at + 2) n)
+
+keys-laid : (numbers : List ℕ) (at n : ℕ) → Laying numbers at (keysFrom numbers at n) n
+keys-laid numbers at zero j h = absurd (omega arith)
+keys-laid numbers at (suc n) zero h = let e : at ≡ at + 2 * 0 = omega arith in ap (λ i. keyOf (cornerAt numbers i)) e
+keys-laid numbers at (suc n) (suc j) h =
+    let e : at + 2 + 2 * j ≡ at + 2 * suc j = omega arith in keys-laid numbers (at + 2) n j (omega arith) ∙ ap (λ i. keyOf (cornerAt numbers i)) e
+
+-- A table that stands at the front of held numbers is the triangles of its corners' numbers, three for each, as they stand there.
+pub held-keys : (numbers : List ℕ) → All Held numbers → (table : List Triangle) (rest : List ℤ) → Stands (counted triangleNumbers) numbers 0 table rest
+    → (keys : List ℕ) × (length keys ≡ 3 * length table) × (trianglesOf keys ≡ table) × ((k : ℕ) → k < length keys → getD keys k 0 ≡ keyOf (cornerAt numbers (1 + 2 * k)))
+held-keys numbers held table rest s = (keys, long, laid-table numbers held keys laid table rest s long, laid)
+  where
+    keys : List ℕ
+    keys = keysFrom numbers 1 (3 * length table)
+
+    long : length keys ≡ 3 * length table
+    long = length-keys numbers 1 (3 * length table)
+
+    laid : Laying numbers 1 keys (length keys)
+    laid = rw long (keys-laid numbers 1 (3 * length table))

@@ -15,6 +15,7 @@ fn wide(b: u8) -> usize
 // The little-endian u32 at a place of a frame.
 fn number(frame: &[u8], at: usize) -> usize
     requires { ⌜ at + 4 ≤ length (now frame) ⌝ }
+    ensures { λ r. ⌜ r < 4294967296 ⌝ }
 {
     wide(frame[at])
         + 256 * wide(frame[at + 1])
@@ -43,12 +44,22 @@ fn line(answer: u64, sum: u64) {
     io::write_all(1, b"\n");
 }
 
-// What the entry answers: 0 numbers, 1 write, 2 owner sets. Any other answers 255, a code that no entry gives.
+// What the boundary entry answers; the number of the polygon stands before the sheet, as a little-endian u32.
+fn boundary(input: &[u8], lent: &mut [u8]) -> u64 {
+    if input.len() < 4 {
+        return 255;
+    }
+    sheets::sheet_boundary(&input[4..], number(input, 0) as u32, lent)
+}
+
+// What the entry answers: 0 numbers, 1 write, 2 owner sets, 3 owners, 4 boundary. Any other answers 255, a code that no entry gives.
 fn answer(entry: u8, input: &[u8], lent: &mut [u8]) -> u64 {
     match entry {
         0 => sheets::sheet_numbers(input, lent),
         1 => sheets::sheet_write(input, lent),
         2 => sheets::sheet_owner_sets(input, lent),
+        3 => sheets::sheet_owners(input, lent),
+        4 => boundary(input, lent),
         _ => 255,
     }
 }

@@ -1,10 +1,13 @@
 -- Where the table and the polygons of a held sheet stand. Assumes nothing.
 use mathlib.Core.Path.{_≡_, refl, sym, _∙_, ap}
 use mathlib.Core.List.{List, [], _++_, map, append-nil}
-use Prim.Native.Nat.{ℕ, _+_, _*_, _≤_, _<_}
+use Prim.Native.Nat.{ℕ, _+_, _*_, _<_}
 use native.Mathlib.Omega.{arith}
 use lib.ListN.{length, getD, drop}
-use lib.Seq.{take-append-le}
+use lib.Seq.{take-append-le, take-all}
+use Rattle.plane.specs.Points.{Triangle}
+use Rattle.plane.specs.Boundaries.{sidesOf}
+use Rattle.table.specs.Sides.{opposites}
 use Rattle.plane.specs.Corners.{millimetres}
 use Rattle.sheet.specs.Numbers.{Sheet, triangleNumbers, counted, memberNumbers}
 use Rattle.written.specs.Held.{SheetHeld}
@@ -13,7 +16,7 @@ use Rattle.edges.proofs.Triangles.{table-behind, table-room}
 use Rattle.owners.specs.Owners.{sets}
 use Rattle.owner_sets.specs.declared.Owning.{Owning}
 use Rattle.owner_sets.specs.declared.Owning.the-variants.{Sets, Refused}
-use Rattle.owner_sets.specs.Owning.{PolygonsAt, ownedAs, Within}
+use Rattle.owner_sets.specs.Owning.{PolygonsAt, ownedAs, OneEach, Crossed}
 
 module _ (n : Sheet) (numbers : List ℕ) where
   pub table-stands : SheetHeld n numbers → Stands (counted triangleNumbers) numbers 0 (n .table) (counted memberNumbers (n .polygons))
@@ -30,11 +33,16 @@ module _ (n : Sheet) (numbers : List ℕ) where
     few = h .few-edges;
   }
 
--- The owner sets in a part of the lent numbers are those at the front of all of them.
-pub owned-front : (r : Owning) (part rest : List ℕ) → Within r (length part) → ownedAs r (part ++ rest) ≡ ownedAs r part
-owned-front (Sets n) part rest h = ap sets (take-append-le n part rest h)
+-- The owner sets in a part of the lent numbers are those at the front of all of them,
+pub owned-front : (r : Owning) (part rest : List ℕ) → OneEach r (length part) → ownedAs r (part ++ rest) ≡ ownedAs r part
+owned-front (Sets n) part rest h = ap sets (take-append-le n part rest (omega arith))
 owned-front (Refused number item) part rest h = refl
 
-pub within-more : (r : Owning) (m n : ℕ) → m ≤ n → Within r m → Within r n
-within-more (Sets k) m n h w = omega arith
-within-more (Refused number item) m n h w = tt
+-- and so are the reverses.
+pub crossed-front : (r : Owning) (table : List Triangle) (m : ℕ) (part rest : List ℕ) → OneEach r m → length part ≡ 3 * m → Crossed r table part → Crossed r table (part ++ rest)
+crossed-front (Sets n) table m part rest h e q = take-append-le (3 * n) part rest (omega arith) ∙ q
+crossed-front (Refused number item) table m part rest h e q = tt
+
+pub crossed-all : (r : Owning) (table : List Triangle) (m : ℕ) (opposite : List ℕ) → OneEach r m → length opposite ≡ 3 * m → opposite ≡ opposites (sidesOf table) → Crossed r table opposite
+crossed-all (Sets n) table m opposite h e q = take-all (3 * n) opposite (omega arith) ∙ q
+crossed-all (Refused number item) table m opposite h e q = tt

@@ -1,4 +1,4 @@
--- How the code's answers show what a sheet comes to: the table checked, one polygon judged, all polygons judged, the owner sets.
+-- How the code's answers show what a sheet comes to: one polygon judged, all polygons judged, the owner sets.
 use mathlib.Core.Path.{_≡_}
 use mathlib.Core.Bool.{Bool, true}
 use mathlib.Core.List.{List, map}
@@ -9,26 +9,16 @@ use Rattle.whole.specs.Sums.{All}
 use Rattle.plane.specs.Points.{Triangle}
 use Rattle.plane.specs.Members.{Member, memberEdges}
 use Rattle.plane.specs.Corners.{millimetres}
-use Rattle.plane.specs.Keys.{Key}
-use Rattle.table.specs.Table.{Checked, passed, refused, checkTable}
-use Rattle.table.specs.Sides.{trianglesOf}
-use Rattle.sheet.specs.Numbers.{counted, memberNumbers}
+use Rattle.plane.specs.Boundaries.{sidesOf}
+use Rattle.table.specs.Sides.{opposites}
+use Rattle.sheet.specs.Numbers.{Sheet, counted, memberNumbers}
 use Rattle.edges.specs.Standing.{Stands}
 use Rattle.owners.specs.Judging.{judge, notCarried, code}
-use Rattle.owners.specs.Owners.{Owned, sets, refusal}
-use Rattle.owners.specs.Preparing.{Indexed, judgedOf}
+use Rattle.owners.specs.Owners.{Owned, sets, refusal, ownersOf}
+use Rattle.owners.specs.Preparing.{judgedOf}
 use Rattle.owner_sets.specs.declared.Owning.{Owning}
 use Rattle.owner_sets.specs.declared.Owning.the-variants.{Sets, Refused as Refusal}
-use Rattle.owner_sets.specs.declared.Check.{Check}
-use Rattle.owner_sets.specs.declared.Check.the-variants.{Passed, Refused}
 use Rattle.owner_sets.specs.declared.Turn.{Turn}
-
--- Work lists of one length.
-pub record Alike (n : ℕ) (t c i o : List ℕ) : Type 0 where
-  pub tails : length t ≡ n
-  pub codes : length c ≡ n
-  pub index : length i ≡ n
-  pub opposite : length o ≡ n
 
 -- Work lists for n triangles: three places for each in the first three, one in the last two; all labels are set.
 pub record Lists (n : ℕ) (k r c : List ℕ) (l : List Bool) (o : List ℕ) : Type 0 where
@@ -38,22 +28,6 @@ pub record Lists (n : ℕ) (k r c : List ℕ) (l : List Bool) (o : List ℕ) : T
   pub labels : length l ≡ n
   pub order : length o ≡ n
   pub all-set : All (λ b. b ≡ true) l
-
--- The corners of n triangles, 1 to 1,024.
-pub record Tableable (keys : List ℕ) (n : ℕ) : Type 0 where
-  pub in-range : All Key keys
-  pub three : length keys ≡ 3 * n
-  pub some : 1 ≤ n
-  pub few : n ≤ 1024
-
--- The check is that of the table rules in their order; where it passes, corners and sides can be looked up.
-abbrev pub checkedOf : Check → Checked
-checkedOf (Passed n) = passed
-checkedOf (Refused number item) = refused number item
-
-pub record CheckOf (keys ordered index opposite : List ℕ) (r : Check) : Type 0 where
-  pub is : checkedOf r ≡ checkTable (trianglesOf keys)
-  pub indexed : (n : ℕ) → r ≡ Passed n → (n ≤ length ordered) × Indexed keys (take n ordered) index opposite
 
 -- A polygon stands at the place, with at most 4,096 edges.
 pub record PolygonAt (numbers : List ℕ) (at : ℕ) (m : Member) (rest : List ℤ) : Type 0 where
@@ -81,7 +55,18 @@ abbrev pub ownedAs : Owning → List ℕ → Owned
 ownedAs (Sets n) l = sets (take n l)
 ownedAs (Refusal number item) l = refusal number item
 
--- No more sets are told of than there are lent numbers.
-abbrev pub Within : Owning → ℕ → Type 0
-Within (Sets n) m = n ≤ m
-Within (Refusal number item) m = Unit {0}
+-- Owner sets are told of one for each of m triangles.
+abbrev pub OneEach : Owning → ℕ → Type 0
+OneEach (Sets n) m = n ≡ m
+OneEach (Refusal number item) m = Unit {0}
+
+-- Beside owner sets the number of the reverse of each side of the table stands in a list.
+abbrev pub Crossed : Owning → List Triangle → List ℕ → Type 0
+Crossed (Sets n) table opposite = take (3 * n) opposite ≡ opposites (sidesOf table)
+Crossed (Refusal number item) table opposite = Unit {0}
+
+-- The answer with the two lists is what the sheet comes to.
+pub record OwnedOf (n : Sheet) (r : Owning) (opposite l : List ℕ) : Type 0 where
+  pub is : ownedAs r l ≡ ownersOf (n .table) (n .polygons)
+  pub each : OneEach r (length (n .table))
+  pub crossed : Crossed r (n .table) opposite

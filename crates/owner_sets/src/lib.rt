@@ -1,24 +1,22 @@
 // From a sheet in numbers to its owner sets: the table rules in their order, then the judging of the polygons in number order.
 ghost use mathlib.Core.Path.{_≡_};
 ghost use mathlib.Core.Bool.{true};
-ghost use mathlib.Core.List.{List, []};
+ghost use mathlib.Core.List.{List};
 ghost use Prim.Native.Nat.{ℕ, _+_, _*_, _≤_, _<_};
 ghost use lib.IntN.{ℤ};
 ghost use lib.ListN.{length, replicate};
 ghost use Rattle.whole.specs.Sums.{All};
-ghost use Rattle.plane.specs.Cuts.{allPieces};
-ghost use Rattle.plane.specs.Boundaries.{agree, sidesOf};
-ghost use Rattle.plane.specs.Members.{Member, edges};
+ghost use Rattle.plane.specs.Members.{Member};
 ghost use Rattle.plane.specs.Corners.{Held};
-ghost use Rattle.plane.specs.Keys.{Key};
-ghost use Rattle.table.specs.Table.{corners, frame, RuleA, RuleB, firstFault, repeats};
-ghost use Rattle.table.specs.Sides.{trianglesOf, itemOf};
-ghost use Rattle.ascending.specs.Ascending.{ascending};
+ghost use Rattle.table.specs.Table.{RuleA};
+ghost use Rattle.table.specs.Sides.{trianglesOf};
 ghost use Rattle.sheet.specs.Numbers.{Sheet};
 ghost use Rattle.written.specs.Held.{SheetHeld};
-ghost use Rattle.owners.specs.Owners.{ownersOf, ofOwnership, judgeFrom};
+ghost use Rattle.owners.specs.Owners.{ofOwnership, judgeFrom};
 ghost use Rattle.owners.specs.Preparing.{Indexed, Prepared};
-ghost use Rattle.owner_sets.specs.Owning.{Alike, Lists, Tableable, CheckOf, PolygonAt, TurnOf, PolygonsAt, ownedBy, ownedAs, Within};
+ghost use Rattle.checking.specs.Checking.{Alike};
+ghost use Rattle.owner_sets.specs.Owning.{Lists, PolygonAt, TurnOf, PolygonsAt, ownedBy, ownedAs, OneEach, OwnedOf};
+use checking::Check;
 use owners::Judging;
 
 // What a sheet comes to: the owner sets of so many triangles, or a refusal with its number and item.
@@ -27,86 +25,10 @@ pub enum Owning {
     Refused(u32, u32),
 }
 
-// What the check of a table comes to: it passes, with so many different corners; or a refusal with its number and item.
-pub enum Check {
-    Passed(usize),
-    Refused(u32, u32),
-}
-
 // How a polygon was judged, and the place behind it.
 pub struct Turn {
     pub judging: Judging,
     pub at: usize,
-}
-
-// Makes the table's sides ready to be looked up, and lays down the side across each side. Answers the number of the first triangle with a
-// side of an earlier one, 0 where there is none.
-fn index_sides(
-    keys: &[u64],
-    ordered: &[u64],
-    tails: &mut [u64],
-    codes: &mut [u64],
-    index: &mut [u64],
-    opposite: &mut [usize],
-) -> usize
-    requires { ⌜ All Key (now keys) × ((n : ℕ) × (length (now keys) ≡ 3 * n)) × (length (now keys) ≤ 3072) × (now ordered ≡ ascending (now keys)) × Alike (length (now keys)) (now tails) (now codes) (now index) (now opposite) ⌝ }
-    ensures { λ r. ⌜ (r ≡ itemOf (firstFault repeats [] (trianglesOf (now (keys .entry))))) × (RuleB (trianglesOf (now (keys .entry))) → Indexed (now (keys .entry)) (now (ordered .entry)) (now (index .exit)) (now (opposite .exit))) ⌝ }
-{
-    across::tails(keys, tails);
-    across::codes(ordered, keys, tails, codes);
-    across::index(codes, index);
-    across::opposites(index, codes, opposite);
-    table::repeated_side(codes)
-}
-
-// Rule C: the set of all triangles has the frame as its boundary, by the same comparison as in judging.
-fn framed(
-    keys: &[u64],
-    ordered: &[u64],
-    index: &[u64],
-    opposite: &[usize],
-    counts: &mut [u32],
-    labels: &[bool],
-) -> bool
-    requires { ⌜ Indexed (now keys) (now ordered) (now index) (now opposite) × All Key (now keys) × (1 ≤ length (trianglesOf (now keys))) × (length (now counts) ≡ length (now keys)) × (length (now labels) ≡ length (trianglesOf (now keys))) × All (λ b. b ≡ true) (now labels) ⌝ }
-    ensures { λ r. ⌜ r ≡ agree (sidesOf (trianglesOf (now (keys .entry)))) (allPieces (corners (trianglesOf (now (keys .entry)))) (edges (frame (corners (trianglesOf (now (keys .entry))))))) ⌝ }
-{
-    let mut from = [0u64; 4];
-    let mut to = [0u64; 4];
-    table::frame_edges(keys, &mut from, &mut to);
-    if !counting::tally(ordered, index, &from, &to, counts) {
-        return false;
-    }
-    labels::agree(opposite, counts, labels)
-}
-
-// The table rules in their order: 10 over all triangles, then 11, then 12.
-fn check_table(
-    keys: &[u64],
-    ordered: &mut [u64],
-    tails: &mut [u64],
-    codes: &mut [u64],
-    index: &mut [u64],
-    opposite: &mut [usize],
-    counts: &mut [u32],
-    labels: &[bool],
-) -> Check
-    requires { ⌜ Tableable (now keys) (length (now labels)) × (length (now ordered) ≡ length (now keys)) × Alike (length (now keys)) (now tails) (now codes) (now index) (now opposite) × (length (now counts) ≡ length (now keys)) × All (λ b. b ≡ true) (now labels) ⌝ }
-    ensures { λ r. ⌜ CheckOf (now (keys .entry)) (now (ordered .exit)) (now (index .exit)) (now (opposite .exit)) r ⌝ }
-{
-    let flat = table::flat_triangle(keys);
-    if flat != 0 {
-        return Check::Refused(10, flat as u32);
-    }
-    let n = ascending::sort(keys, ordered);
-    let repeated = index_sides(keys, &ordered[..n], tails, codes, index, opposite);
-    if repeated != 0 {
-        return Check::Refused(11, repeated as u32);
-    }
-    if !framed(keys, &ordered[..n], index, opposite, counts, labels) {
-        return Check::Refused(12, 0);
-    }
-    Check::Passed(n)
 }
 
 // Judges the polygon at a place, its edges laid down in two lists.
@@ -219,7 +141,7 @@ fn judge_all(
     requires { ⌜ ((keys : List ℕ) × Indexed keys (now ordered) (now index) (now opposite) × RuleA (trianglesOf keys) × (length (now counts) ≡ length keys) × (length (now labels) ≡ length (trianglesOf keys))
         × (length (now order) ≡ length (trianglesOf keys)) × (length (now sets) ≡ length (trianglesOf keys)) × (length (trianglesOf keys) ≤ 1024))
         × ((n : Sheet) × SheetHeld n (now numbers) × (length (n .table) ≡ length (now sets))) ⌝ }
-    ensures { λ r. ⌜ Within r (length (now (sets .entry))) × ((keys : List ℕ) (n : Sheet) → Indexed keys (now (ordered .entry)) (now (index .entry)) (now (opposite .entry)) → RuleA (trianglesOf keys) → SheetHeld n (now (numbers .entry)) → trianglesOf keys ≡ n .table
+    ensures { λ r. ⌜ OneEach r (length (now (sets .entry))) × ((keys : List ℕ) (n : Sheet) → Indexed keys (now (ordered .entry)) (now (index .entry)) (now (opposite .entry)) → RuleA (trianglesOf keys) → SheetHeld n (now (numbers .entry)) → trianglesOf keys ≡ n .table
         → length (now (counts .entry)) ≡ length keys → length (now (labels .entry)) ≡ length (trianglesOf keys) → length (now (order .entry)) ≡ length (trianglesOf keys) → length (now (sets .entry)) ≡ length (trianglesOf keys)
         → ownedAs r (now (sets .exit)) ≡ ofOwnership (length (n .table)) (judgeFrom (n .table) 1 (n .polygons))) ⌝ }
 {
@@ -258,10 +180,10 @@ fn owned(
     sets: &mut [u64],
 ) -> Owning
     requires { ⌜ ((n : Sheet) × SheetHeld n (now numbers) × (length (n .table) ≡ length (now sets))) × Lists (length (now sets)) (now keys) (now ordered) (now counts) (now labels) (now order) × Alike (3 * length (now sets)) (now tails) (now codes) (now index) (now opposite) ⌝ }
-    ensures { λ r. ⌜ Within r (length (now (sets .entry))) × ((n : Sheet) → SheetHeld n (now (numbers .entry)) → length (n .table) ≡ length (now (sets .entry)) → ownedAs r (now (sets .exit)) ≡ ownersOf (n .table) (n .polygons)) ⌝ }
+    ensures { λ r. ⌜ ((n : Sheet) → SheetHeld n (now (numbers .entry)) → length (n .table) ≡ length (now (sets .entry)) → OwnedOf n r (now (opposite .exit)) (now (sets .exit))) ⌝ }
 {
     edges::corners(numbers, keys);
-    match check_table(keys, ordered, tails, codes, index, opposite, counts, labels) {
+    match checking::check_table(keys, ordered, tails, codes, index, opposite, counts, labels) {
         Check::Refused(code, item) => Owning::Refused(code, item),
         Check::Passed(n) => judge_all(
             numbers,
@@ -278,12 +200,6 @@ fn owned(
 
 // Work lists for the largest table: three places for each triangle, and one.
 fn corner_list() -> [u64; 3072]
-    ensures { λ r. ⌜ 3072 ≡ length r ⌝ }
-{
-    [0; 3072]
-}
-
-fn side_list() -> [usize; 3072]
     ensures { λ r. ⌜ 3072 ≡ length r ⌝ }
 {
     [0; 3072]
@@ -308,10 +224,11 @@ fn all_labels() -> [bool; 1024]
     [true; 1024]
 }
 
-// The owner sets of the sheet in numbers, laid down at the front of the lent ones; or the refusal.
-pub fn owner_sets(numbers: &[u32], sets: &mut [u64]) -> Owning
-    requires { ⌜ ((n : Sheet) × SheetHeld n (now numbers)) × (1024 ≤ length (now sets)) ⌝ }
-    ensures { λ r. ⌜ Within r (length (now (sets .entry))) × ((n : Sheet) → SheetHeld n (now (numbers .entry)) → ownedAs r (now (sets .exit)) ≡ ownersOf (n .table) (n .polygons)) ⌝ }
+// The owner sets of the sheet in numbers, laid down at the front of the lent ones, and beside them the number of the reverse of each side; or
+// the refusal.
+pub fn owner_sets(numbers: &[u32], opposite: &mut [usize], sets: &mut [u64]) -> Owning
+    requires { ⌜ ((n : Sheet) × SheetHeld n (now numbers)) × (3072 ≤ length (now opposite)) × (1024 ≤ length (now sets)) ⌝ }
+    ensures { λ r. ⌜ ((n : Sheet) → SheetHeld n (now (numbers .entry)) → OwnedOf n r (now (opposite .exit)) (now (sets .exit))) ⌝ }
 {
     let t = (numbers[0] - 10_000_000) as usize;
     let m = 3 * t;
@@ -320,7 +237,6 @@ pub fn owner_sets(numbers: &[u32], sets: &mut [u64]) -> Owning
     let mut tails = corner_list();
     let mut codes = corner_list();
     let mut index = corner_list();
-    let mut opposite = side_list();
     let mut counts = count_list();
     let mut labels = all_labels();
     let mut order = triangle_list();

@@ -25,9 +25,10 @@ use Rattle.written.specs.Normal.{written}
 use Rattle.written.proofs.Form.{form-is}
 use Rattle.written.proofs.Sized.{given-fits}
 use Rattle.written.proofs.Trip.{round-trip}
-use Rattle.sheets.specs.Answered.{bytes as wrote}
-use Rattle.sheets.specs.Entries.{heldBytes, sheetNumbers}
-use Rattle.sheets.proofs.Bytes.{held-length, all-length}
+use Rattle.lent.specs.Answered.{bytes as wrote}
+use Rattle.lent.specs.Bytes.{heldBytes}
+use Rattle.sheets.specs.Entries.{sheetNumbers}
+use Rattle.lent.proofs.Bytes.{held-length, all-length}
 
 -- Four bytes are the i32 of their number.
 four : (l : List ℕ) → length l ≡ 4 → All (λ x. x < 256) l → i32 (toZ w32 (number l)) ≡ l

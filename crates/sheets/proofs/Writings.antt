@@ -13,7 +13,7 @@ use Rattle.written.specs.Normal.{written}
 use Rattle.written.proofs.Sized.{written-small, given-fits}
 use Rattle.writer.specs.declared.Writing.the-variants.{Refused, Short, Bytes}
 use Rattle.writer.specs.Writings.{writingOf, leftBy}
-use Rattle.sheets.specs.Answered.{Answered}
+use Rattle.lent.specs.Answered.{Answered}
 use Rattle.sheets.specs.Entries.{writeOutcome}
 
 module _ (lent after : List ℕ) where

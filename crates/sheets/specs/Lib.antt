@@ -1,3 +1,2 @@
 -- The entries that both products call: what each answers, and the lent bytes afterwards.
-pub mod Answered
 pub mod Entries

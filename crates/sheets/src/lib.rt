@@ -1,92 +1,11 @@
 // The entries that both products call, on numbers and byte slices only. Each answers item × 256 + code.
 ghost use mathlib.Core.Path.{_≡_};
-ghost use mathlib.Core.List.{flatMap, _++_};
-ghost use Prim.Native.Nat.{_+_, _*_, _≤_};
-ghost use lib.ListN.{length, take, drop};
-ghost use lib.Seq.{sets};
-ghost use mir.Syntax.{w32};
-ghost use mir.Val.{ofZ};
-ghost use Rattle.plane.specs.Corners.{millimetres};
-ghost use Rattle.sheet.specs.Numbers.{Sheet};
-ghost use Rattle.written.specs.Held.{SheetHeld};
-ghost use Rattle.owners.specs.Owners.{ownersOf};
-ghost use Rattle.sheets.specs.Answered.{Answered};
-ghost use Rattle.sheets.specs.Entries.{heldBytes, sheetNumbers, sheetWrite, setBytes, ownedOutcome, sheetOwnerSets};
+ghost use lib.ListN.{length};
+ghost use Rattle.lent.specs.Answered.{Answered};
+ghost use Rattle.sheets.specs.Entries.{sheetNumbers, sheetWrite, sheetOwnerSets, sheetOwners, sheetBoundary};
 use owner_sets::Owning;
 use sheet::Ending;
 use writer::Writing;
-
-// A held number as the bits of an i32.
-fn bits(h: u32) -> u32
-    ensures { λ r. ⌜ r ≡ ofZ w32 (millimetres h) ⌝ }
-{
-    if h < 10_000_000 {
-        h + 4_284_967_296
-    } else {
-        h - 10_000_000
-    }
-}
-
-// Writes a held number as a little-endian i32.
-fn put(out: &mut [u8], at: usize, h: u32)
-    requires { ⌜ at + 4 ≤ length (now out) ⌝ }
-    ensures { λ _. ⌜ now (out .exit) ≡ sets (now (out .entry)) at (heldBytes h) ⌝ }
-{
-    let a = bits(h);
-    let b = a / 256;
-    let c = b / 256;
-    let d = c / 256;
-    out[at] = (a % 256) as u8;
-    out[at + 1] = (b % 256) as u8;
-    out[at + 2] = (c % 256) as u8;
-    out[at + 3] = (d % 256) as u8;
-}
-
-// Writes the first n held numbers over the front of the lent bytes.
-fn write(numbers: &[u32], n: usize, out: &mut [u8])
-    requires { ⌜ (n ≤ length (now numbers)) × (4 * n ≤ length (now out)) ⌝ }
-    ensures { λ _. ⌜ now (out .exit) ≡ flatMap heldBytes (take n (now (numbers .entry))) ++ drop (4 * n) (now (out .entry)) ⌝ }
-{
-    let mut i: usize = 0;
-    while i < n {
-        put(out, 4 * i, numbers[i]);
-        i += 1;
-    }
-}
-
-// Writes an owner set as a little-endian u64.
-fn put_set(out: &mut [u8], at: usize, x: u64)
-    requires { ⌜ at + 8 ≤ length (now out) ⌝ }
-    ensures { λ _. ⌜ now (out .exit) ≡ sets (now (out .entry)) at (setBytes x) ⌝ }
-{
-    let b = x / 256;
-    let c = b / 256;
-    let d = c / 256;
-    let e = d / 256;
-    let f = e / 256;
-    let g = f / 256;
-    let h = g / 256;
-    out[at] = (x % 256) as u8;
-    out[at + 1] = (b % 256) as u8;
-    out[at + 2] = (c % 256) as u8;
-    out[at + 3] = (d % 256) as u8;
-    out[at + 4] = (e % 256) as u8;
-    out[at + 5] = (f % 256) as u8;
-    out[at + 6] = (g % 256) as u8;
-    out[at + 7] = (h % 256) as u8;
-}
-
-// Writes the first n owner sets over the front of the lent bytes.
-fn write_sets(sets: &[u64], n: usize, out: &mut [u8])
-    requires { ⌜ (n ≤ length (now sets)) × (8 * n ≤ length (now out)) ⌝ }
-    ensures { λ _. ⌜ now (out .exit) ≡ flatMap setBytes (take n (now (sets .entry))) ++ drop (8 * n) (now (out .entry)) ⌝ }
-{
-    let mut i: usize = 0;
-    while i < n {
-        put_set(out, 8 * i, sets[i]);
-        i += 1;
-    }
-}
 
 // The numbers of a sheet: its numbers form as little-endian i32; the item is the number of bytes.
 #[no_mangle]
@@ -101,7 +20,7 @@ pub extern "C" fn sheet_numbers(sheet: &[u8], out: &mut [u8]) -> u64
             if out.len() / 4 < n {
                 return 40;
             }
-            write(&numbers, n, out);
+            lent::write(&numbers, n, out);
             4 * (n as u64) * 256
         }
     }
@@ -119,29 +38,23 @@ pub extern "C" fn sheet_write(numbers: &[u8], out: &mut [u8]) -> u64
     }
 }
 
-// Room for the owner sets of the largest table.
+// Room for the numbers of the longest sheet, for the sides of the largest table, and for its owner sets.
+fn number_list() -> [u32; 16450]
+    ensures { λ r. ⌜ 16450 ≡ length r ⌝ }
+{
+    [0; 16450]
+}
+
+fn side_list() -> [usize; 3072]
+    ensures { λ r. ⌜ 3072 ≡ length r ⌝ }
+{
+    [0; 3072]
+}
+
 fn set_list() -> [u64; 1024]
     ensures { λ r. ⌜ 1024 ≡ length r ⌝ }
 {
     [0; 1024]
-}
-
-// The owner sets of a sheet in numbers.
-fn owners(numbers: &[u32], out: &mut [u8]) -> u64
-    requires { ⌜ ((n : Sheet) × SheetHeld n (now numbers)) ⌝ }
-    ensures { λ r. ⌜ ((n : Sheet) → SheetHeld n (now (numbers .entry)) → Answered (ownedOutcome (ownersOf (n .table) (n .polygons))) (now (out .entry)) r (now (out .exit))) ⌝ }
-{
-    let mut sets = set_list();
-    match owner_sets::owner_sets(numbers, &mut sets) {
-        Owning::Refused(code, item) => item as u64 * 256 + code as u64,
-        Owning::Sets(n) => {
-            if out.len() / 8 < n {
-                return 40;
-            }
-            write_sets(&sets, n, out);
-            n as u64 * 256
-        }
-    }
 }
 
 // The owners of each triangle before repair, in table order, as a little-endian u64 whose bit k-1 stands for polygon k; the item is the
@@ -150,9 +63,53 @@ fn owners(numbers: &[u32], out: &mut [u8]) -> u64
 pub extern "C" fn sheet_owner_sets(sheet: &[u8], out: &mut [u8]) -> u64
     ensures { λ r. ⌜ Answered (sheetOwnerSets (now (sheet .entry))) (now (out .entry)) r (now (out .exit)) ⌝ }
 {
-    let mut numbers = [0u32; 16450];
-    match sheet::read(sheet, &mut numbers) {
-        Ending::Refused(code, item) => item as u64 * 256 + code as u64,
-        Ending::Sheet(n) => owners(&numbers[..n], out),
+    let mut numbers = number_list();
+    let mut opposite = side_list();
+    let mut sets = set_list();
+    match judged::judged(sheet, &mut numbers, &mut opposite, &mut sets) {
+        Owning::Refused(code, item) => item as u64 * 256 + code as u64,
+        Owning::Sets(n) => answers::owner_sets(&sets[..n], out),
+    }
+}
+
+// The number of each triangle after repair, one byte each, in table order; the item is the number of triangles.
+#[no_mangle]
+pub extern "C" fn sheet_owners(sheet: &[u8], out: &mut [u8]) -> u64
+    ensures { λ r. ⌜ Answered (sheetOwners (now (sheet .entry))) (now (out .entry)) r (now (out .exit)) ⌝ }
+{
+    let mut numbers = number_list();
+    let mut opposite = side_list();
+    let mut sets = set_list();
+    match judged::judged(sheet, &mut numbers, &mut opposite, &mut sets) {
+        Owning::Refused(code, item) => item as u64 * 256 + code as u64,
+        Owning::Sets(n) => answers::owners(&opposite[..3 * n], &sets[..n], out),
+    }
+}
+
+// The boundary sides of a polygon of the sheet after repair: ux, uy, vx, vy as little-endian i32 for each; the item is the number of sides.
+#[no_mangle]
+pub extern "C" fn sheet_boundary(sheet: &[u8], polygon: u32, out: &mut [u8]) -> u64
+    ensures { λ r. ⌜ Answered (sheetBoundary polygon (now (sheet .entry))) (now (out .entry)) r (now (out .exit)) ⌝ }
+{
+    let mut numbers = number_list();
+    let mut opposite = side_list();
+    let mut sets = set_list();
+    match judged::judged(sheet, &mut numbers, &mut opposite, &mut sets) {
+        Owning::Refused(code, item) => item as u64 * 256 + code as u64,
+        Owning::Sets(n) => {
+            if polygon == 0 {
+                return 41;
+            }
+            if numbers[1 + 6 * n] - 10_000_000 < polygon {
+                return 41;
+            }
+            answers::boundary(
+                &numbers,
+                &opposite[..3 * n],
+                &sets[..n],
+                polygon as usize,
+                out,
+            )
+        }
     }
 }

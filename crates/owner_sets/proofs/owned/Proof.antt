@@ -1,5 +1,5 @@
 -- `owner_sets::owned` meets its contract: the corners are laid down, the table is checked, and the polygons are judged. Assumes nothing.
-use mathlib.Core.Path.{_≡_, sym, _∙_, ap}
+use mathlib.Core.Path.{_≡_, sym, _∙_, ap, subst}
 use Prim.Native.Nat.{_*_}
 use native.Mathlib.Omega.{arith}
 use borrow.Author.Needs.{needs}
@@ -7,11 +7,14 @@ use denote.Ref.{now}
 use lib.ListN.{length}
 use lib.Seq.{length-take-le}
 use Rattle.table.specs.Table.{passed, checkTable}
-use Rattle.table.specs.Sides.{trianglesOf}
+use Rattle.plane.specs.Boundaries.{sidesOf}
+use Rattle.table.specs.Sides.{trianglesOf, opposites}
 use Rattle.table.proofs.Rules.{passes}
 use Rattle.sheet.specs.Numbers.{counted, memberNumbers}
-use Rattle.owner_sets.specs.Owning.{checkedOf}
+use Rattle.checking.specs.Checking.{checkedOf}
+use Rattle.owner_sets.specs.Owning.{OneEach}
 use Rattle.owner_sets.proofs.Checking.{owners-refused, owners-passed}
+use Rattle.owner_sets.proofs.Standing.{crossed-all}
 use borrow.Author.Needs.{needs}
 use Rattle.owner_sets.proofs.owned.Statement.{statement}
 use Rattle.owner_sets.proofs.owned.Tie as tie
@@ -88,16 +91,14 @@ same-length-8 : tie.Need-same-length-8
 same-length-8 c = search needs
 
 returns : tie.Need-returns
-returns c = (
-  tt,
-  λ n held e.
-      let a = c .before .before .before .before .before .before .before .before .before .before .before .before .before .before .before .before .before .before .before .before .before .before .before .before .before .before .before .before .before .before .before .before .before .before .before .before .before .before .before .args in
-      let p = c .before .before .before .before .before .before .before .before .before .before .before .before .before .before .before .before .before .before .before .before .before .before .before .before .before .before .before .before .before .before .before .before .before .before .before .before .before .before .before .pre in
-      let s = p .0 in
-      let l = p .1 in
-      let t : trianglesOf (c .before .before .before .before .before .before .before .before .before .before .before .before .before .before .before .before .before .before .before .before .before .before .before .before .before .before .corners .last .1 .0) ≡ n .table = c .before .before .before .before .before .before .before .before .before .before .before .before .before .before .before .before .before .before .before .before .before .before .before .before .before .before .corners .ensures .0 (n .table) (counted memberNumbers (n .polygons)) (held .is) (l .keys ∙ ap (λ t. 3 * t) (sym e)) in
-      owners-refused (n .table) (n .polygons) (c .before .code .given .0 .0) (c .before .code .given .0 .1 .0) (sym (ap checkedOf (c .before .code .given .1)) ∙ c .before .before .before .before .before .before .before .before .before .before .before .before .before .before .before .check-table .ensures .is ∙ ap checkTable t),
-)
+returns c =
+    λ n held e.
+    let a = c .before .before .before .before .before .before .before .before .before .before .before .before .before .before .before .before .before .before .before .before .before .before .before .before .before .before .before .before .before .before .before .before .before .before .before .before .before .before .before .args in
+    let p = c .before .before .before .before .before .before .before .before .before .before .before .before .before .before .before .before .before .before .before .before .before .before .before .before .before .before .before .before .before .before .before .before .before .before .before .before .before .before .before .pre in
+    let s = p .0 in
+    let l = p .1 in
+    let t : trianglesOf (c .before .before .before .before .before .before .before .before .before .before .before .before .before .before .before .before .before .before .before .before .before .before .before .before .before .before .corners .last .1 .0) ≡ n .table = c .before .before .before .before .before .before .before .before .before .before .before .before .before .before .before .before .before .before .before .before .before .before .before .before .before .before .corners .ensures .0 (n .table) (counted memberNumbers (n .polygons)) (held .is) (l .keys ∙ ap (λ t. 3 * t) (sym e)) in
+    record { is = owners-refused (n .table) (n .polygons) (c .before .code .given .0 .0) (c .before .code .given .0 .1 .0) (sym (ap checkedOf (c .before .code .given .1)) ∙ c .before .before .before .before .before .before .before .before .before .before .before .before .before .before .before .check-table .ensures .is ∙ ap checkTable t); each = tt; crossed = tt }
 
 same-length-9 : tie.Need-same-length-9
 same-length-9 c = c .before .before .before .before .before .before .before .before .before .before .before .before .before .before .before .before .before .before .before .before .before .before .before .before .before .before .before .before .before .before .before .before .before .before .before .before .before .before .before .before .before .before .corners .ensures .2
@@ -130,20 +131,23 @@ same-length-18 : tie.Need-same-length-18
 same-length-18 c = search needs
 
 returns-2 : tie.Need-returns-2
-returns-2 c = (
-  c .before .before .before .before .before .before .before .before .judge-all .ensures .0,
-  λ n held e.
-      let a = c .before .before .before .before .before .before .before .before .before .before .before .before .before .before .before .before .before .before .before .before .before .before .before .before .before .before .before .before .before .before .before .before .before .before .before .before .before .before .before .before .before .before .before .before .before .before .before .before .before .before .before .before .before .before .before .args in
-      let p = c .before .before .before .before .before .before .before .before .before .before .before .before .before .before .before .before .before .before .before .before .before .before .before .before .before .before .before .before .before .before .before .before .before .before .before .before .before .before .before .before .before .before .before .before .before .before .before .before .before .before .before .before .before .before .before .pre in
-      let s = p .0 in
-      let l = p .1 in
-      let x = c .before .before .before .before .before .before .before .before .before .before .before .before .before .before .before .before .before .before .before .before .before .before .before .before .before .before .before .before .before .before .before .check-table .ensures .indexed (c .before .before .before .before .before .before .before .before .before .before .before .before .before .before .before .before .before .n .given .0 .0) (c .before .before .before .before .before .before .before .before .before .before .before .before .before .before .before .before .before .n .given .1) .1 in
-      let t : trianglesOf (c .before .before .before .before .before .before .before .before .before .before .before .before .before .before .before .before .before .before .before .before .before .before .before .before .before .before .before .before .before .before .before .before .before .before .before .before .before .before .before .before .before .before .corners .last .1 .0) ≡ n .table = c .before .before .before .before .before .before .before .before .before .before .before .before .before .before .before .before .before .before .before .before .before .before .before .before .before .before .before .before .before .before .before .before .before .before .before .before .before .before .before .before .before .before .corners .ensures .0 (n .table) (counted memberNumbers (n .polygons)) (held .is) (l .keys ∙ ap (λ t. 3 * t) (sym e)) in
-      let m : length (trianglesOf (c .before .before .before .before .before .before .before .before .before .before .before .before .before .before .before .before .before .before .before .before .before .before .before .before .before .before .before .before .before .before .before .before .before .before .before .before .before .before .before .before .before .before .corners .last .1 .0)) ≡ length (now (a .sets)) = ap length t ∙ e in
-      let k : length (c .before .before .before .before .before .before .before .before .before .before .before .before .before .before .before .before .before .before .before .before .before .before .before .before .before .before .before .before .before .before .before .before .before .before .before .before .before .before .before .before .before .before .corners .last .1 .0) ≡ 3 * length (now (a .sets)) = c .before .before .before .before .before .before .before .before .before .before .before .before .before .before .before .before .before .before .before .before .before .before .before .before .before .before .before .before .before .before .before .before .before .before .before .before .before .before .before .before .before .before .corners .ensures .2 ∙ l .keys in
-      let q : passed ≡ checkTable (trianglesOf (c .before .before .before .before .before .before .before .before .before .before .before .before .before .before .before .before .before .before .before .before .before .before .before .before .before .before .before .before .before .before .before .before .before .before .before .before .before .before .before .before .before .before .corners .last .1 .0)) = sym (ap checkedOf (c .before .before .before .before .before .before .before .before .before .before .before .before .before .before .before .before .before .n .given .1)) ∙ c .before .before .before .before .before .before .before .before .before .before .before .before .before .before .before .before .before .before .before .before .before .before .before .before .before .before .before .before .before .before .before .check-table .ensures .is in
-      c .before .before .before .before .before .before .before .before .judge-all .ensures .1 (c .before .before .before .before .before .before .before .before .before .before .before .before .before .before .before .before .before .before .before .before .before .before .before .before .before .before .before .before .before .before .before .before .before .before .before .before .before .before .before .before .before .before .corners .last .1 .0) n x (passes (trianglesOf (c .before .before .before .before .before .before .before .before .before .before .before .before .before .before .before .before .before .before .before .before .before .before .before .before .before .before .before .before .before .before .before .before .before .before .before .before .before .before .before .before .before .before .corners .last .1 .0)) .0 (sym q) .0) held t (c .before .before .before .before .before .before .before .before .before .before .before .before .before .before .before .before .before .before .before .before .before .before .before .before .before .before .before .before .before .before .before .check-table .kept .1 .1 .1 .1 .1 .1 .0 ∙ l .counts ∙ sym k) (l .labels ∙ sym m) (l .order ∙ sym m) (sym m) ∙ owners-passed (n .table) (n .polygons) (q ∙ ap checkTable t),
-)
+returns-2 c =
+    λ n held e.
+    let a = c .before .before .before .before .before .before .before .before .before .before .before .before .before .before .before .before .before .before .before .before .before .before .before .before .before .before .before .before .before .before .before .before .before .before .before .before .before .before .before .before .before .before .before .before .before .before .before .before .before .before .before .before .before .before .before .args in
+    let p = c .before .before .before .before .before .before .before .before .before .before .before .before .before .before .before .before .before .before .before .before .before .before .before .before .before .before .before .before .before .before .before .before .before .before .before .before .before .before .before .before .before .before .before .before .before .before .before .before .before .before .before .before .before .before .before .pre in
+    let s = p .0 in
+    let l = p .1 in
+    let x = c .before .before .before .before .before .before .before .before .before .before .before .before .before .before .before .before .before .before .before .before .before .before .before .before .before .before .before .before .before .before .before .check-table .ensures .indexed (c .before .before .before .before .before .before .before .before .before .before .before .before .before .before .before .before .before .n .given .0 .0) (c .before .before .before .before .before .before .before .before .before .before .before .before .before .before .before .before .before .n .given .1) .1 in
+    let t : trianglesOf (c .before .before .before .before .before .before .before .before .before .before .before .before .before .before .before .before .before .before .before .before .before .before .before .before .before .before .before .before .before .before .before .before .before .before .before .before .before .before .before .before .before .before .corners .last .1 .0) ≡ n .table = c .before .before .before .before .before .before .before .before .before .before .before .before .before .before .before .before .before .before .before .before .before .before .before .before .before .before .before .before .before .before .before .before .before .before .before .before .before .before .before .before .before .before .corners .ensures .0 (n .table) (counted memberNumbers (n .polygons)) (held .is) (l .keys ∙ ap (λ t. 3 * t) (sym e)) in
+    let m : length (trianglesOf (c .before .before .before .before .before .before .before .before .before .before .before .before .before .before .before .before .before .before .before .before .before .before .before .before .before .before .before .before .before .before .before .before .before .before .before .before .before .before .before .before .before .before .corners .last .1 .0)) ≡ length (now (a .sets)) = ap length t ∙ e in
+    let k : length (c .before .before .before .before .before .before .before .before .before .before .before .before .before .before .before .before .before .before .before .before .before .before .before .before .before .before .before .before .before .before .before .before .before .before .before .before .before .before .before .before .before .before .corners .last .1 .0) ≡ 3 * length (now (a .sets)) = c .before .before .before .before .before .before .before .before .before .before .before .before .before .before .before .before .before .before .before .before .before .before .before .before .before .before .before .before .before .before .before .before .before .before .before .before .before .before .before .before .before .before .corners .ensures .2 ∙ l .keys in
+    let q : passed ≡ checkTable (trianglesOf (c .before .before .before .before .before .before .before .before .before .before .before .before .before .before .before .before .before .before .before .before .before .before .before .before .before .before .before .before .before .before .before .before .before .before .before .before .before .before .before .before .before .before .corners .last .1 .0)) = sym (ap checkedOf (c .before .before .before .before .before .before .before .before .before .before .before .before .before .before .before .before .before .n .given .1)) ∙ c .before .before .before .before .before .before .before .before .before .before .before .before .before .before .before .before .before .before .before .before .before .before .before .before .before .before .before .before .before .before .before .check-table .ensures .is in
+    let one = subst (OneEach (c .before .before .before .before .before .before .before .before .judge-all .result)) (sym e) (c .before .before .before .before .before .before .before .before .judge-all .ensures .0) in
+    record {
+      is = c .before .before .before .before .before .before .before .before .judge-all .ensures .1 (c .before .before .before .before .before .before .before .before .before .before .before .before .before .before .before .before .before .before .before .before .before .before .before .before .before .before .before .before .before .before .before .before .before .before .before .before .before .before .before .before .before .before .corners .last .1 .0) n x (passes (trianglesOf (c .before .before .before .before .before .before .before .before .before .before .before .before .before .before .before .before .before .before .before .before .before .before .before .before .before .before .before .before .before .before .before .before .before .before .before .before .before .before .before .before .before .before .corners .last .1 .0)) .0 (sym q) .0) held t (c .before .before .before .before .before .before .before .before .before .before .before .before .before .before .before .before .before .before .before .before .before .before .before .before .before .before .before .before .before .before .before .check-table .kept .1 .1 .1 .1 .1 .1 .0 ∙ l .counts ∙ sym k) (l .labels ∙ sym m) (l .order ∙ sym m) (sym m) ∙ owners-passed (n .table) (n .polygons) (q ∙ ap checkTable t);
+      each = one;
+      crossed = crossed-all (c .before .before .before .before .before .before .before .before .judge-all .result) (n .table) (length (n .table)) _ one (c .before .before .before .before .before .before .before .before .before .before .before .before .before .before .before .before .before .before .before .before .before .before .before .before .before .before .before .before .before .before .before .check-table .kept .1 .1 .1 .1 .1 .0 ∙ p .2 .opposite ∙ ap (λ t. 3 * t) (sym e)) (x .opposite-is ∙ ap (λ t. opposites (sidesOf t)) t);
+    }
 
 pub owned-spec : {M : Type 1} → statement M
 owned-spec =

@@ -1,0 +1,2 @@
+-- What a judged sheet goes on to in each entry.
+pub mod Answers

@@ -1,0 +1,3 @@
+-- The theorems of boundary sides.
+pub mod Bounding
+pub mod Laying

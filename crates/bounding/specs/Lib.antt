@@ -1,0 +1,2 @@
+-- The boundary sides of a polygon after repair.
+pub mod Sides

@@ -1,0 +1,2 @@
+-- The table rules in their order.
+pub mod Checking

@@ -1,0 +1,96 @@
+-- The boundary sides of a polygon of a held sheet, as bytes: they are read off the held numbers by the numbers of the sides.
+-- The idea: by rule B the boundary sides are those that bound the polygon by number. Side k runs from corner k to the next of its triangle,
+-- and a corner's number is made of the two held numbers that stand for it, so that the bytes of both points are those of the held numbers.
+-- Every place read is one of the table's, which stands at the front. Assumes nothing.
+use mathlib.Core.Path.{_≡_, refl, _∙_, ap, ap₂, subst}
+use mathlib.Core.List.{List, [], _∷_, _++_, map, flatMap}
+use Prim.Native.Nat.{ℕ, zero, suc, _+_, _-_, _*_, _≤_, _<_}
+use native.Mathlib.Omega.{arith}
+use lib.ListN.{length, getD, take, length-map}
+use Rattle.whole.specs.Sums.{All}
+use Rattle.whole.proofs.Sums.{all-map}
+use Rattle.plane.specs.Corners.{Held}
+use Rattle.plane.specs.Boundaries.{sidesOf}
+use Rattle.plane.specs.Keys.{keyOf, pointAt}
+use Rattle.table.specs.Table.{RuleB}
+use Rattle.table.specs.Sides.{trianglesOf, tailsOf, sideAt, opposites}
+use Rattle.table.proofs.Shares.{length-opposites}
+use Rattle.bounding.specs.Sides.{boundarySides, trianglesOwned, boundaryNumbers}
+use Rattle.bounding.proofs.Bounding.{by-number}
+use Rattle.bounding.proofs.Laying.{bounding-below}
+use Rattle.sheet.specs.Numbers.{Sheet, memberNumbers, counted}
+use Rattle.lent.specs.Bytes.{heldBytes, pointBytes, sideBytes, endOf, cornerHeld, sideHeld}
+use Rattle.written.specs.Held.{SheetHeld}
+use Rattle.edges.specs.Standing.{cornerAt}
+use Rattle.edges.proofs.Walk.{point-at}
+use Rattle.edges.proofs.Triangles.{table-room, held-keys}
+
+-- ---- lists
+flatMap-image : {A B C : Type 0} (f : B → List C) (g : A → B) (h : A → List C) (l : List A) → All (λ a. f (g a) ≡ h a) l → flatMap f (map g l) ≡ flatMap h l
+unfolding flatMap
+flatMap-image f g h [] e = refl
+flatMap-image f g h (a ∷ l) e = ap₂ _++_ (e .0) (flatMap-image f g h l (e .1))
+
+-- A member of the front of a list is the list's.
+front-at : (size : ℕ) (l : List ℕ) (i : ℕ) → i < length (take size l) → getD (take size l) i 0 ≡ getD l i 0
+front-at zero l i h = absurd (omega arith)
+front-at (suc size) [] i h = refl
+front-at (suc size) (x ∷ l) zero h = refl
+front-at (suc size) (x ∷ l) (suc i) h = front-at size l i (omega arith)
+
+-- ---- the corner at which a side ends
+tail-is : (keys : List ℕ) (n : ℕ) → length keys ≡ 3 * n → (k : ℕ) → k < length keys → getD (tailsOf keys) k 0 ≡ getD keys (endOf k) 0
+tail-is [] n e k h = absurd (omega arith)
+tail-is (a ∷ []) n e k h = absurd (omega arith)
+tail-is (a ∷ b ∷ []) n e k h = absurd (omega arith)
+tail-is (a ∷ b ∷ c ∷ l) n e zero h = refl
+tail-is (a ∷ b ∷ c ∷ l) n e (suc zero) h = refl
+tail-is (a ∷ b ∷ c ∷ l) n e (suc (suc zero)) h = refl
+tail-is (a ∷ b ∷ c ∷ l) n e (suc (suc (suc k))) h =
+    let z : suc (suc (suc (endOf k))) ≡ endOf (suc (suc (suc k))) = omega arith in
+    tail-is l (n - 1) (omega arith) k (omega arith) ∙ ap (λ i. getD (a ∷ b ∷ c ∷ l) i 0) z
+
+-- ---- for corners of n triangles, as they stand among held numbers at the front of a list
+module _ (size : ℕ) (long : List ℕ) (held : All Held (take size long)) (keys : List ℕ) (n : ℕ) (whole : length keys ≡ 3 * n)
+    (laid : (k : ℕ) → k < length keys → getD keys k 0 ≡ keyOf (cornerAt (take size long) (1 + 2 * k))) (room : 1 + 6 * n ≤ length (take size long)) where
+  -- The bytes of a corner, and of a side.
+  corner-held : (k : ℕ) → k < length keys → pointBytes (pointAt (getD keys k 0)) ≡ cornerHeld long k
+  corner-held k h =
+      ap pointBytes (ap pointAt (laid k h) ∙ point-at (take size long) held (1 + 2 * k))
+      ∙ ap₂ (λ x y. heldBytes x ++ heldBytes y) (at (1 + 2 * k) (2 * k + 1) (omega arith) (omega arith)) (at (1 + 2 * k + 1) (2 * k + 2) (omega arith) (omega arith))
+    where
+      at : (i j : ℕ) → i ≡ j → i < length (take size long) → getD (take size long) i 0 ≡ getD long j 0
+      at i j e l = front-at size long i l ∙ ap (λ i. getD long i 0) e
+
+  side-held : (k : ℕ) → k < length keys → sideBytes (sideAt keys k) ≡ sideHeld long k
+  side-held k h = ap₂ _++_ (corner-held k h) (ap (λ v. pointBytes (pointAt v)) (tail-is keys n whole k h) ∙ corner-held (endOf k) (omega arith))
+
+  -- And of the sides that bound polygon p.
+  keys-held : (owners : List ℕ) → length owners ≡ n → (p : ℕ) → RuleB (trianglesOf keys) → flatMap sideBytes (boundarySides (trianglesOwned (trianglesOf keys) owners p))
+      ≡ flatMap (sideHeld long) (boundaryNumbers (opposites (sidesOf (trianglesOf keys))) owners p)
+  keys-held owners fits p once =
+      ap (flatMap sideBytes) (by-number keys n whole once owners fits p)
+      ∙ flatMap-image sideBytes (sideAt keys) (sideHeld long) (boundaryNumbers opposite owners p)
+      (all-map (λ k. k < length opposite) (λ k. sideBytes (sideAt keys k) ≡ sideHeld long k) (λ k h. side-held k (omega (arith, length-opposites keys n whole)))
+      (boundaryNumbers opposite owners p) (bounding-below opposite owners p))
+    where
+      opposite : List ℕ
+      opposite = opposites (sidesOf (trianglesOf keys))
+
+-- ---- for a held sheet with rule B and an owner for each triangle
+-- The bytes of a polygon's boundary sides are those of the held numbers, which may be the front of a longer list.
+pub sides-held : {n : Sheet} (size : ℕ) (long : List ℕ) (h : SheetHeld n (take size long)) (once : RuleB (n .table)) (owners : List ℕ) (fits : length owners ≡ length (n .table)) (p : ℕ)
+    → flatMap sideBytes (boundarySides (trianglesOwned (n .table) owners p)) ≡ flatMap (sideHeld long) (boundaryNumbers (opposites (sidesOf (n .table))) owners p)
+sides-held {n} size long h once owners fits p =
+    let rest = counted memberNumbers (n .polygons) in
+    let k = held-keys (take size long) (h .held) (n .table) rest (h .is) in
+    subst (λ t. RuleB t → flatMap sideBytes (boundarySides (trianglesOwned t owners p)) ≡ flatMap (sideHeld long) (boundaryNumbers (opposites (sidesOf t)) owners p)) (k .2)
+    (keys-held size long (h .held) (k .0) (length (n .table)) (k .1) (k .3) (table-room (take size long) (n .table) rest (h .is)) owners fits p) once
+
+-- There are as many as bound the polygon by number.
+pub sides-as-many : {n : Sheet} {numbers : List ℕ} (h : SheetHeld n numbers) (once : RuleB (n .table)) (owners : List ℕ) (fits : length owners ≡ length (n .table)) (p : ℕ)
+    → length (boundarySides (trianglesOwned (n .table) owners p)) ≡ length (boundaryNumbers (opposites (sidesOf (n .table))) owners p)
+sides-as-many {n} {numbers} h once owners fits p =
+    let k = held-keys numbers (h .held) (n .table) (counted memberNumbers (n .polygons)) (h .is) in
+    subst (λ t. RuleB t → length (boundarySides (trianglesOwned t owners p)) ≡ length (boundaryNumbers (opposites (sidesOf t)) owners p)) (k .2)
+    (λ once. ap length (by-number (k .0) (length (n .table)) (k .1) once owners fits p) ∙ length-map (boundaryNumbers (opposites (sidesOf (trianglesOf (k .0)))) owners p) (sideAt (k .0))) once

@@ -1,0 +1,2 @@
+-- From bytes to a judged sheet.
+pub mod Judged

@@ -1,0 +1,37 @@
+-- The bytes of answers: coordinates and counts, owner sets, sides.
+use mathlib.Core.List.{List, _++_}
+use Prim.Native.Nat.{ℕ, _+_, _-_, _*_, _%_, _≤_}
+use lib.ListN.{length, getD}
+use Rattle.plane.specs.Corners.{millimetres}
+use Rattle.plane.specs.Points.{Point, Edge}
+use Rattle.wkb.specs.Bytes.{bytes as bytesIn}
+use Rattle.sheet.specs.Numbers.{i32}
+
+-- A held number as a little-endian i32.
+abbrev pub heldBytes : ℕ → List ℕ
+heldBytes h = i32 (millimetres h)
+
+-- An owner set as a little-endian u64.
+abbrev pub setBytes : ℕ → List ℕ
+setBytes x = bytesIn 8 x
+
+-- A side uv: ux, uy, vx, vy as little-endian i32.
+abbrev pub pointBytes : Point → List ℕ
+pointBytes p = i32 (p .x) ++ i32 (p .y)
+
+abbrev pub sideBytes : Edge → List ℕ
+sideBytes e = pointBytes (e .from) ++ pointBytes (e .to)
+
+-- Side k of the table off the held numbers: corner k, and then the next corner of its triangle.
+abbrev pub endOf : ℕ → ℕ
+endOf k = k - k % 3 + (k + 1) % 3
+
+abbrev pub cornerHeld : List ℕ → ℕ → List ℕ
+cornerHeld numbers c = heldBytes (getD numbers (2 * c + 1) 0) ++ heldBytes (getD numbers (2 * c + 2) 0)
+
+abbrev pub sideHeld : List ℕ → ℕ → List ℕ
+sideHeld numbers k = cornerHeld numbers k ++ cornerHeld numbers (endOf k)
+
+-- The corners of the triangle of side k are among the numbers.
+abbrev pub SideIn : List ℕ → ℕ → Type 0
+SideIn numbers k = 2 * (k - k % 3) + 7 ≤ length numbers

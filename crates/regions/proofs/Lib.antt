@@ -1,0 +1,3 @@
+-- The theorems of gap regions.
+pub mod Regions
+pub mod Spreading

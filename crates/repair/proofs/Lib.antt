@@ -1,0 +1,6 @@
+-- The theorems of repair.
+pub mod Largest
+pub mod OneOwner
+pub mod Kept
+pub mod Filling
+pub mod Giving

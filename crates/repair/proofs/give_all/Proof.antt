@@ -1,0 +1,72 @@
+-- `repair::give_all` meets its contract. The invariant: whole regions are given, and the gaps before t are met. Assumes nothing.
+use mathlib.Core.Path.{sym, _∙_, ap}
+use mathlib.Core.Bool.{false}
+use Prim.Native.Nat.{_-_, _≤_}
+use native.Mathlib.Omega.{arith}
+use denote.Ref.{now}
+use lib.ListN.{length, length-replicate}
+use Rattle.repair.specs.Giving.{State}
+use Rattle.repair.proofs.Giving.{MetTo, none-given, met-next, all-given}
+use Rattle.repair.proofs.give_all.Statement.{statement}
+use Rattle.repair.proofs.give_all.Tie as tie
+
+abbrev Inv-loop : tie.InvT-loop
+Inv-loop opposite numbers met₀ group₀ owners₀ n₀ t₀ met group owners n t = State opposite numbers met group n owners × MetTo numbers met t × (t ≤ length numbers)
+
+abbrev μ-loop : tie.MeasureT-loop
+μ-loop opposite numbers met₀ group₀ owners₀ n₀ t₀ met group owners n t = length numbers - t
+
+loop-holds : tie.Need-loop-holds Inv-loop μ-loop
+loop-holds c =
+    let s = c .before .before .before .before .before in
+    (none-given _ _ (s .pre .1) (s .pre .2) (s .pre .3), (λ u h. absurd (omega arith)), omega arith)
+
+give-requires : tie.Need-give-requires Inv-loop μ-loop
+give-requires c κs =
+    let l = c .before .before .before .before in
+    (l .before .before .before .before .before .before .pre .0, l .loop .inv .0, omega arith)
+
+add-t : tie.Need-add-t Inv-loop μ-loop
+add-t c =
+    let l = c .before .before .before .before .before .before .before .before .before .before .before in
+    let s = l .before .before .before .before .before .before in
+    omega (arith, l .loop .inv .2)
+
+loop-less : tie.Need-loop-less Inv-loop μ-loop
+loop-less c = let l = c .before .before .before .before .before .before .before .before .before .before .before .loop in omega arith
+
+loop-again : tie.Need-loop-again Inv-loop μ-loop
+loop-again c =
+    let l = c .before .before .before .before .before .before .before .before .before .before .before .loop in
+    let a = c .before .before .before .before .before .before .give .ensures in
+    (a .0, met-next (l .inv .1) (a .1), omega arith)
+
+same-length : tie.Need-same-length Inv-loop μ-loop
+same-length c =
+    let s = c .before .before .before .before .before .before .before in
+    c .before .loop .inv .0 .meeting .marks ∙ sym (ap length (s .pre .1) ∙ length-replicate (length (now (s .args .numbers))) false)
+
+same-length-2 : tie.Need-same-length-2 Inv-loop μ-loop
+same-length-2 c = c .before .loop .inv .0 .meeting .room ∙ sym (c .before .before .before .before .before .before .before .pre .2)
+
+same-length-3 : tie.Need-same-length-3 Inv-loop μ-loop
+same-length-3 c = c .before .loop .inv .0 .as-many ∙ sym (ap length (c .before .before .before .before .before .before .before .pre .3))
+
+returns : tie.Need-returns Inv-loop μ-loop
+returns c = let l = c .before .loop in all-given (l .inv .0) (λ u h. l .inv .1 u (omega arith))
+
+pub give-all-spec : {M : Type 1} → statement M
+give-all-spec =
+    tie.close
+    (tie.spec
+    Inv-loop
+    μ-loop
+    loop-holds
+    give-requires
+    add-t
+    loop-less
+    loop-again
+    same-length
+    same-length-2
+    same-length-3
+    returns)

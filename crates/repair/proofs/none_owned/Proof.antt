@@ -1,0 +1,55 @@
+-- `repair::none_owned` meets its contract. The invariant: the first t numbers are 0. Assumes nothing.
+use Prim.Native.Nat.{ℕ, _-_, _≤_, _<_}
+use mathlib.Core.Path.{_≡_, sym}
+use native.Mathlib.Omega.{arith}
+use borrow.Author.Needs.{needs}
+use denote.Ref.{now}
+use lib.ListN.{length, getD}
+use Rattle.repair.proofs.Giving.{all-zero, one-not-zero, zero-next}
+use Rattle.repair.proofs.none_owned.Statement.{statement}
+use Rattle.repair.proofs.none_owned.Tie as tie
+
+abbrev Inv-loop : tie.InvT-loop
+Inv-loop numbers t₀ t = (t ≤ length numbers) × ((i : ℕ) → i < t → getD numbers i 0 ≡ 0)
+
+abbrev μ-loop : tie.MeasureT-loop
+μ-loop numbers t₀ t = length numbers - t
+
+loop-holds : tie.Need-loop-holds Inv-loop μ-loop
+loop-holds c = (omega arith, λ i h. absurd (omega arith))
+
+mul-if1 : tie.Need-mul-if1 Inv-loop μ-loop
+mul-if1 c = search needs
+
+shared-slice-read-if1 : tie.Need-shared-slice-read-if1 Inv-loop μ-loop
+shared-slice-read-if1 c = search needs
+
+returns : tie.Need-returns Inv-loop μ-loop
+returns c = sym (one-not-zero (now (c .before .before .before .before .args .numbers)) (c .before .before .before .loop .t) (c .if1 .taken))
+
+add-t : tie.Need-add-t Inv-loop μ-loop
+add-t c = search needs
+
+loop-less : tie.Need-loop-less Inv-loop μ-loop
+loop-less c = omega arith
+
+loop-again : tie.Need-loop-again Inv-loop μ-loop
+loop-again c = let l = c .before .before .before .loop in (omega arith, zero-next (now (c .before .before .before .before .args .numbers)) (l .t) (l .inv .1) (omega (arith, c .if1 .left)))
+
+returns-2 : tie.Need-returns-2 Inv-loop μ-loop
+returns-2 c = sym (all-zero (now (c .before .before .args .numbers)) (λ i h. c .before .loop .inv .1 i (omega arith)))
+
+pub none-owned-spec : {M : Type 1} → statement M
+none-owned-spec =
+    tie.close
+    (tie.spec
+    Inv-loop
+    μ-loop
+    loop-holds
+    mul-if1
+    shared-slice-read-if1
+    returns
+    add-t
+    loop-less
+    loop-again
+    returns-2)

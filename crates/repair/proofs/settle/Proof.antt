@@ -1,0 +1,81 @@
+-- `repair::settle` meets its contract. The invariant: the first t numbers are those of their sets. Assumes nothing.
+use mathlib.Core.Path.{_≡_, refl, sym, _∙_}
+use Prim.Native.Nat.{ℕ, _-_, _≤_, _<_}
+use native.Mathlib.Omega.{arith}
+use borrow.Author.Needs.{needs}
+use denote.Ref.{now}
+use lib.ListN.{length, getD, length-set, length-map}
+use lib.Seq.{ext-getD}
+use Rattle.marks.specs.Marks.{standingOf}
+use Rattle.repair.specs.Repair.{settledBy, settled}
+use Rattle.repair.proofs.Filling.{set-next, settled-at}
+use Rattle.repair.proofs.settle.Statement.{statement}
+use Rattle.repair.proofs.settle.Tie as tie
+
+abbrev Inv-loop : tie.InvT-loop
+Inv-loop sets numbers₀ t₀ numbers t =
+    (t ≤ length numbers₀) × (length numbers ≡ length numbers₀) × ((i : ℕ) → i < t → getD numbers i 0 ≡ settledBy (standingOf (getD sets i 0)))
+
+abbrev μ-loop : tie.MeasureT-loop
+μ-loop sets numbers₀ t₀ numbers t = length numbers₀ - t
+
+loop-holds : tie.Need-loop-holds Inv-loop μ-loop
+loop-holds c = (omega arith, refl, λ i h. absurd (omega arith))
+
+mul-owner-of : tie.Need-mul-owner-of Inv-loop μ-loop
+mul-owner-of c = search needs
+
+shared-slice-read-owner-of : tie.Need-shared-slice-read-owner-of Inv-loop μ-loop
+shared-slice-read-owner-of c = omega arith
+
+owner-of-requires : tie.Need-owner-of-requires Inv-loop μ-loop
+owner-of-requires c κs = search needs
+
+mul-numbers : tie.Need-mul-numbers Inv-loop μ-loop
+mul-numbers c = search needs
+
+slice-write-numbers : tie.Need-slice-write-numbers Inv-loop μ-loop
+slice-write-numbers c = omega arith
+
+add-t : tie.Need-add-t Inv-loop μ-loop
+add-t c = omega arith
+
+loop-less : tie.Need-loop-less Inv-loop μ-loop
+loop-less c = omega arith
+
+loop-again : tie.Need-loop-again Inv-loop μ-loop
+loop-again c =
+    let l = c .before .before .before .loop in
+    let a = c .before .before .before .before .before .before .args in (
+      omega arith,
+      length-set (l .numbers) (l .t) (c .owner-of .result) ∙ l .inv .1,
+      λ i h. set-next (λ j. settledBy (standingOf (getD (now (a .sets)) j 0))) (l .numbers) (l .t) (c .owner-of .result) (omega arith) (c .owner-of .ensures) (l .inv .2) i (omega arith),
+    )
+
+same-length : tie.Need-same-length Inv-loop μ-loop
+same-length c = c .before .loop .inv .1
+
+returns : tie.Need-returns Inv-loop μ-loop
+returns c =
+    let l = c .before .loop in
+    let a = c .before .before .before .before .args in
+    let n = length-map (now (a .sets)) (λ set. settledBy (standingOf set)) in
+    ext-getD 0 (l .numbers) (settled (now (a .sets))) (omega (arith, n)) (λ i h. l .inv .2 i (omega arith) ∙ sym (settled-at (now (a .sets)) i (omega arith)))
+
+pub settle-spec : {M : Type 1} → statement M
+settle-spec =
+    tie.close
+    (tie.spec
+    Inv-loop
+    μ-loop
+    loop-holds
+    mul-owner-of
+    shared-slice-read-owner-of
+    owner-of-requires
+    mul-numbers
+    slice-write-numbers
+    add-t
+    loop-less
+    loop-again
+    same-length
+    returns)

@@ -1,0 +1,50 @@
+-- `repair::with_side` meets its contract, by whether there is a triangle across, and which number is greater. Assumes nothing.
+use Prim.Native.Nat.{_-_}
+use native.Mathlib.Omega.{arith}
+use lib.ListN.{getD}
+use denote.Ref.{now}
+use Rattle.repair.proofs.Filling.{side-none, side-more, side-less}
+use borrow.Author.Needs.{needs}
+use Rattle.repair.proofs.with_side.Statement.{statement}
+use Rattle.repair.proofs.with_side.Tie as tie
+
+mul-o : tie.Need-mul-o
+mul-o c = search needs
+
+shared-slice-read-o : tie.Need-shared-slice-read-o
+shared-slice-read-o c = search needs
+
+returns : tie.Need-returns
+returns c = let s = c .before .before .args in side-none (now (s .opposite)) (now (s .numbers)) (s .best) _ (c .if1 .taken)
+
+sub-number : tie.Need-sub-number
+sub-number c = search needs
+
+mul-number : tie.Need-mul-number
+mul-number c =
+    let s = c .before .before in
+    omega (arith, s .pre .0 .there (s .args .k) (getD (now (s .args .opposite)) (s .args .k) 0 - 1) (omega (arith, c .if1 .left)), s .pre .0 .sides)
+
+shared-slice-read-number : tie.Need-shared-slice-read-number
+shared-slice-read-number c =
+    let s = c .before .before .before in
+    omega (arith, s .pre .0 .there (s .args .k) (getD (now (s .args .opposite)) (s .args .k) 0 - 1) (omega (arith, c .before .if1 .left)), s .pre .0 .sides)
+
+returns-2 : tie.Need-returns-2
+returns-2 c = let s = c .before .before .before .before .args in side-more (now (s .opposite)) (now (s .numbers)) (s .best) _ (λ e. c .before .before .if1 .left e) (c .if2 .taken)
+
+returns-3 : tie.Need-returns-3
+returns-3 c = let s = c .before .before .before .before .args in side-less (now (s .opposite)) (now (s .numbers)) (s .best) _ (λ e. c .before .before .if1 .left e) (omega (arith, c .if2 .left))
+
+pub with-side-spec : {M : Type 1} → statement M
+with-side-spec =
+    tie.close
+    (tie.spec
+    mul-o
+    shared-slice-read-o
+    returns
+    sub-number
+    mul-number
+    shared-slice-read-number
+    returns-2
+    returns-3)

@@ -1,0 +1,3 @@
+-- Repair: overlaps settled, and gap regions given to a neighbour.
+pub mod Repair
+pub mod Giving

@@ -1,0 +1,187 @@
+// Repair: overlaps settled to their smallest owner number, and each gap region given to the largest number across its sides.
+ghost use mathlib.Core.Path.{_≡_};
+ghost use mathlib.Core.Bool.{false};
+ghost use mathlib.Core.List.{map};
+ghost use Prim.Native.Nat.{ℕ, _*_, _+_, _≤_, _<_};
+ghost use lib.Dec.{eqb};
+ghost use lib.ListN.{length, getD, replicate};
+ghost use Rattle.whole.specs.Sums.{every};
+ghost use Rattle.marks.specs.Marks.{standingOf};
+ghost use Rattle.regions.specs.Regions.{from};
+ghost use Rattle.regions.specs.Spreading.{Paired};
+ghost use Rattle.repair.specs.Repair.{settledBy, settled, greater, beyond, ownerOf, repaired, repairedAs};
+ghost use Rattle.repair.specs.Giving.{Best, Filled, State, Further};
+
+// The owner number of a triangle once the overlaps are settled; 0 for a gap.
+fn owner_of(set: u64) -> usize
+    ensures { λ r. ⌜ r ≡ settledBy (standingOf set) ⌝ }
+{
+    match marks::standing_of(set) {
+        marks::Standing::Gap => 0,
+        marks::Standing::Single(k) => k as usize,
+        marks::Standing::Overlap(k) => k as usize,
+    }
+}
+
+// The owner number of each triangle once the overlaps are settled.
+pub fn settle(sets: &[u64], numbers: &mut [usize])
+    requires { ⌜ length (now sets) ≡ length (now numbers) ⌝ }
+    ensures { λ _. ⌜ now (numbers .exit) ≡ settled (now (sets .entry)) ⌝ }
+{
+    let mut t: usize = 0;
+    while t < numbers.len() {
+        numbers[t] = owner_of(sets[t]);
+        t += 1;
+    }
+}
+
+// The greater of the number across side k and one at hand.
+fn with_side(opposite: &[usize], numbers: &[usize], k: usize, best: usize) -> usize
+    requires { ⌜ Paired (now opposite) (length (now numbers)) × (k < length (now opposite)) ⌝ }
+    ensures { λ r. ⌜ r ≡ greater best (beyond (now (opposite .entry)) (now (numbers .entry)) (getD (now (opposite .entry)) k 0)) ⌝ }
+{
+    let o = opposite[k];
+    if o == 0 {
+        return best;
+    }
+    let number = numbers[(o - 1) / 3];
+    if best <= number {
+        return number;
+    }
+    best
+}
+
+// The triangles of the group from `first` on and before n are given to one owner.
+fn fill(group: &[usize], first: usize, n: usize, owner: usize, owners: &mut [usize])
+    requires { ⌜ (first ≤ n) × (n ≤ length (now group)) × ((j : ℕ) → j < n → getD (now group) j 0 < length (now owners)) ⌝ }
+    ensures { λ _. ⌜ Filled (now (group .entry)) first n owner (now (owners .entry)) (now (owners .exit)) ⌝ }
+{
+    let mut i = first;
+    while i < n {
+        owners[group[i]] = owner;
+        i += 1;
+    }
+}
+
+// The greatest of the numbers across the sides of triangle u and one at hand.
+fn with_triangle(opposite: &[usize], numbers: &[usize], u: usize, best: usize) -> usize
+    requires { ⌜ Paired (now opposite) (length (now numbers)) × (u < length (now numbers)) ⌝ }
+    ensures { λ r. ⌜ r ≡ greater (greater (greater best (beyond (now (opposite .entry)) (now (numbers .entry)) (getD (now (opposite .entry)) (3 * u) 0)))
+        (beyond (now (opposite .entry)) (now (numbers .entry)) (getD (now (opposite .entry)) (3 * u + 1) 0)))
+        (beyond (now (opposite .entry)) (now (numbers .entry)) (getD (now (opposite .entry)) (3 * u + 2) 0)) ⌝ }
+{
+    let k = 3 * u;
+    let a = with_side(opposite, numbers, k, best);
+    let b = with_side(opposite, numbers, k + 1, a);
+    with_side(opposite, numbers, k + 2, b)
+}
+
+// The largest number across the sides of the triangles of the group from `first` on and before n.
+fn highest(opposite: &[usize], numbers: &[usize], group: &[usize], first: usize, n: usize) -> usize
+    requires { ⌜ Paired (now opposite) (length (now numbers)) × (first ≤ n) × (n ≤ length (now group)) × ((j : ℕ) → j < n → getD (now group) j 0 < length (now numbers)) ⌝ }
+    ensures { λ r. ⌜ Best (now (opposite .entry)) (now (numbers .entry)) (now (group .entry)) first n r ⌝ }
+{
+    let mut best: usize = 0;
+    let mut i = first;
+    while i < n {
+        best = with_triangle(opposite, numbers, group[i], best);
+        i += 1;
+    }
+    best
+}
+
+// The region of triangle t, where it is a gap that has not been met, is given to the largest number across its sides.
+fn give(
+    opposite: &[usize],
+    numbers: &[usize],
+    t: usize,
+    met: &mut [bool],
+    group: &mut [usize],
+    first: usize,
+    owners: &mut [usize],
+) -> usize
+    requires { ⌜ Paired (now opposite) (length (now numbers)) × State (now opposite) (now numbers) (now met) (now group) first (now owners) × (t < length (now numbers)) ⌝ }
+    ensures { λ r. ⌜ State (now (opposite .entry)) (now (numbers .entry)) (now (met .exit)) (now (group .exit)) r (now (owners .exit))
+        × Further (now (numbers .entry)) (now (met .entry)) (now (met .exit)) t ⌝ }
+{
+    if numbers[t] != 0 {
+        return first;
+    }
+    if met[t] {
+        return first;
+    }
+    let n = regions::collect(opposite, numbers, t, met, group, first);
+    let owner = highest(opposite, numbers, group, first, n);
+    fill(group, first, n, owner, owners);
+    n
+}
+
+// Each gap region is given to the largest number across its sides; the other triangles keep theirs.
+fn give_all(
+    opposite: &[usize],
+    numbers: &[usize],
+    met: &mut [bool],
+    group: &mut [usize],
+    owners: &mut [usize],
+)
+    requires { ⌜ Paired (now opposite) (length (now numbers)) × (now met ≡ replicate (length (now numbers)) false) × (length (now group) ≡ length (now numbers)) × (now owners ≡ now numbers) ⌝ }
+    ensures { λ _. ⌜ now (owners .exit) ≡ map (ownerOf (now (opposite .entry)) (now (numbers .entry))) (from 0 (length (now (numbers .entry)))) ⌝ }
+{
+    let mut n: usize = 0;
+    let mut t: usize = 0;
+    while t < numbers.len() {
+        n = give(opposite, numbers, t, met, group, n, owners);
+        t += 1;
+    }
+}
+
+// No triangle has an owner.
+fn none_owned(numbers: &[usize]) -> bool
+    ensures { λ r. ⌜ r ≡ every (eqb 0) (now (numbers .entry)) ⌝ }
+{
+    let mut t: usize = 0;
+    while t < numbers.len() {
+        if numbers[t] != 0 {
+            return false;
+        }
+        t += 1;
+    }
+    true
+}
+
+// Work lists for the largest table: a number for each triangle, and a mark for each, none set.
+fn number_list() -> [usize; 1024]
+    ensures { λ r. ⌜ 1024 ≡ length r ⌝ }
+{
+    [0; 1024]
+}
+
+fn mark_list() -> [bool; 1024]
+    ensures { λ r. ⌜ r ≡ replicate 1024 false ⌝ }
+{
+    [false; 1024]
+}
+
+// Repair: the owner number of each triangle, from the owner sets. False where no triangle has an owner: repair can't be done.
+pub fn repair(opposite: &[usize], sets: &[u64], owners: &mut [usize]) -> bool
+    requires { ⌜ Paired (now opposite) (length (now sets)) × (length (now owners) ≡ length (now sets)) × (length (now sets) ≤ 1024) ⌝ }
+    ensures { λ r. ⌜ repairedAs r (now (owners .exit)) ≡ repaired (now (opposite .entry)) (now (sets .entry)) ⌝ }
+{
+    let n = sets.len();
+    let mut numbers = number_list();
+    let mut met = mark_list();
+    let mut group = number_list();
+    settle(sets, &mut numbers[..n]);
+    settle(sets, owners);
+    if none_owned(&numbers[..n]) {
+        return false;
+    }
+    give_all(
+        opposite,
+        &numbers[..n],
+        &mut met[..n],
+        &mut group[..n],
+        owners,
+    );
+    true
+}
