@@ -5,6 +5,7 @@
     python3 tests/entries.py --check    compare these two files with what is computed here: 'N passed, M failed'
 """
 import frames
+import listing
 import owning
 import reading
 import repairing
@@ -19,6 +20,7 @@ def stored():
         (2, owning.cases(), owning.owner_sets),
         (3, numbers, repairing.owners),
         (4, bounds, repairing.boundary),
+        (5, listing.cases(), listing.answer),
     ])
 
 

@@ -11,7 +11,7 @@ use lib.Seq.{take-at}
 use Rattle.whole.specs.Sums.{All}
 use Rattle.whole.proofs.Sums.{all-map}
 use Rattle.lent.specs.Answered.{Outcome, refusal}
-use Rattle.lent.specs.Bytes.{SideIn}
+use Rattle.little.specs.Bytes.{SideIn}
 use Rattle.regions.specs.Spreading.{Paired}
 use Rattle.repair.specs.Repair.{repaired, repairedAs}
 use Rattle.repair.proofs.OneOwner.{repaired-length, repaired-small}

@@ -4,7 +4,7 @@ use mathlib.Core.Option.{Option, none, some}
 use Prim.Native.Nat.{ℕ}
 use lib.ListN.{length}
 use Rattle.lent.specs.Answered.{Outcome, refusal, bytes}
-use Rattle.lent.specs.Bytes.{setBytes, sideHeld}
+use Rattle.little.specs.Bytes.{setBytes, sideHeld}
 use Rattle.repair.specs.Repair.{repaired}
 use Rattle.bounding.specs.Sides.{boundaryNumbers}
 

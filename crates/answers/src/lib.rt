@@ -16,7 +16,7 @@ pub fn owner_sets(sets: &[u64], out: &mut [u8]) -> u64
     if out.len() / 8 < n {
         return 40;
     }
-    lent::write_sets(sets, n, out);
+    little::write_sets(sets, n, out);
     n as u64 * 256
 }
 
@@ -73,6 +73,6 @@ pub fn boundary(
     if out.len() / 16 < k {
         return 40;
     }
-    lent::write_sides(numbers, &sides[..k], out);
+    little::write_sides(numbers, &sides[..k], out);
     k as u64 * 256
 }

@@ -61,7 +61,7 @@ judged-owners s {n} {l} e = go (readSheet s) refl e
 
 -- ---- owner sets
 -- As many sets as polygons, each with a mark for each triangle.
-marks-fit : (table : List Triangle) → RuleA table → RuleB table → (ms : List Member) (l : List (List Bool)) → EachCarried table ms l
+pub marks-fit : (table : List Triangle) → RuleA table → RuleB table → (ms : List Member) (l : List (List Bool)) → EachCarried table ms l
     → (length l ≡ length ms) × All (λ s. length s ≡ length table) l
 marks-fit table area once [] [] h = (refl, tt)
 marks-fit table area once [] (s ∷ l) h = absurd h

@@ -19,7 +19,7 @@ use Rattle.bounding.specs.Sides.{boundarySides, trianglesOwned, boundaryNumbers
 use Rattle.bounding.proofs.Bounding.{by-number}
 use Rattle.bounding.proofs.Laying.{bounding-below}
 use Rattle.sheet.specs.Numbers.{Sheet, memberNumbers, counted}
-use Rattle.lent.specs.Bytes.{heldBytes, pointBytes, sideBytes, endOf, cornerHeld, sideHeld}
+use Rattle.little.specs.Bytes.{heldBytes, pointBytes, sideBytes, endOf, cornerHeld, sideHeld}
 use Rattle.written.specs.Held.{SheetHeld}
 use Rattle.edges.specs.Standing.{cornerAt}
 use Rattle.edges.proofs.Walk.{point-at}

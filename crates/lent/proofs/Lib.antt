@@ -1,3 +1,3 @@
 -- The laws of bytes written over lent ones.
 pub mod Answered
-pub mod Bytes
+pub mod Placed

@@ -1,3 +1,2 @@
--- The one sentence that all entries share, and the bytes of answers.
+-- The one sentence that all entries share.
 pub mod Answered
-pub mod Bytes

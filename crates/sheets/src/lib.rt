@@ -2,7 +2,7 @@
 ghost use mathlib.Core.Path.{_≡_};
 ghost use lib.ListN.{length};
 ghost use Rattle.lent.specs.Answered.{Answered};
-ghost use Rattle.sheets.specs.Entries.{sheetNumbers, sheetWrite, sheetOwnerSets, sheetOwners, sheetBoundary};
+ghost use Rattle.outcomes.specs.Entries.{sheetNumbers, sheetWrite, sheetOwnerSets, sheetOwners, sheetBoundary, sheetListing};
 use owner_sets::Owning;
 use sheet::Ending;
 use writer::Writing;
@@ -20,7 +20,7 @@ pub extern "C" fn sheet_numbers(sheet: &[u8], out: &mut [u8]) -> u64
             if out.len() / 4 < n {
                 return 40;
             }
-            lent::write(&numbers, n, out);
+            little::write(&numbers, n, out);
             4 * (n as u64) * 256
         }
     }
@@ -112,4 +112,25 @@ pub extern "C" fn sheet_boundary(sheet: &[u8], polygon: u32, out: &mut [u8]) -> 
             )
         }
     }
+}
+
+// Room for the longest listing.
+fn text_list() -> [u8; 6600]
+    ensures { λ r. ⌜ 6600 ≡ length r ⌝ }
+{
+    [0; 6600]
+}
+
+// The printed listing of a sheet; the item is the number of bytes. A refused sheet has a listing too.
+#[no_mangle]
+pub extern "C" fn sheet_listing(sheet: &[u8], out: &mut [u8]) -> u64
+    ensures { λ r. ⌜ Answered (sheetListing (now (sheet .entry))) (now (out .entry)) r (now (out .exit)) ⌝ }
+{
+    let mut text = text_list();
+    let n = listing::print(sheet, &mut text);
+    if out.len() < n {
+        return 40;
+    }
+    lent::write_text(&text[..n], out);
+    n as u64 * 256
 }

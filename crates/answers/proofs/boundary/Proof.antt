@@ -12,9 +12,9 @@ use Rattle.whole.specs.Sums.{All}
 use Rattle.regions.specs.Spreading.{Paired}
 use Rattle.bounding.specs.Sides.{boundaryNumbers}
 use Rattle.lent.specs.Answered.{Answered}
-use Rattle.lent.specs.Bytes.{sideHeld, SideIn}
+use Rattle.little.specs.Bytes.{sideHeld, SideIn}
 use Rattle.lent.proofs.Answered.{answered-refusal, answered-short, answered-bytes}
-use Rattle.lent.proofs.Bytes.{side-length, all-length}
+use Rattle.little.proofs.Bytes.{side-length, all-length}
 use Rattle.answers.specs.Answers.{sidesHeld, sidesOutcome}
 use Rattle.answers.proofs.After.{not-repaired, goes-on, as-many, room, front, sides-in}
 use Rattle.answers.proofs.boundary.Statement.{statement}

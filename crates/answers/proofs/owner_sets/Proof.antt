@@ -6,9 +6,9 @@ use borrow.Author.Needs.{needs}
 use denote.Ref.{now}
 use lib.ListN.{length, drop}
 use lib.Seq.{take-all}
-use Rattle.lent.specs.Bytes.{setBytes}
+use Rattle.little.specs.Bytes.{setBytes}
 use Rattle.lent.proofs.Answered.{answered-short, answered-bytes}
-use Rattle.lent.proofs.Bytes.{set-length, all-length}
+use Rattle.little.proofs.Bytes.{set-length, all-length}
 use Rattle.answers.proofs.owner_sets.Statement.{statement}
 use Rattle.answers.proofs.owner_sets.Tie as tie
 

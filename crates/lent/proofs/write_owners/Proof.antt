@@ -1,22 +1,16 @@
 -- `lent::write_owners` meets its contract. The invariant: the first i owner numbers stand at the front, and behind them what stood there.
 -- Assumes nothing.
 use mathlib.Core.Path.{_≡_, refl, _∙_, ap, ap₂}
-use mathlib.Core.List.{List, _++_}
-use Prim.Native.Nat.{ℕ, _+_, _-_, _≤_, _<_}
-use native.Mathlib.Nat.{zero-add}
-use native.Mathlib.Numerals.{add-one}
+use mathlib.Core.List.{_++_}
+use Prim.Native.Nat.{_-_, _≤_, _<_}
 use native.Mathlib.Omega.{arith}
 use denote.Ref.{now}
 use lib.ListN.{length, getD, take, drop, set, length-set}
-use lib.Seq.{paste-suc, take-all}
+use lib.Seq.{take-all}
 use Rattle.whole.proofs.Sums.{all-at}
+use Rattle.lent.proofs.Placed.{one-placed}
 use Rattle.lent.proofs.write_owners.Statement.{statement}
 use Rattle.lent.proofs.write_owners.Tie as tie
-
--- One owner number more, stored behind the last.
-one-owner : (owners out : List ℕ) (i : ℕ) → i < length owners → i < length out
-    → set (take i owners ++ drop i out) i (getD owners i 0) ≡ take (i + 1) owners ++ drop (i + 1) out
-one-owner owners out i h k = rw add-one (simp zero-add at (paste-suc out 0 owners i 0 (omega arith) h))
 
 abbrev Inv-loop : tie.InvT-loop
 Inv-loop owners out₀ i₀ out i = (i ≤ length owners) × (length out ≡ length out₀) × (out ≡ take i owners ++ drop i out₀)
@@ -50,7 +44,7 @@ loop-again c =
     let l = c .before .before .loop in
     let a = c .before .before .before .args in
     let o = getD (now (a .owners)) (l .i) 0 in
-    (omega arith, length-set (l .out) (l .i) o ∙ l .inv .1, ap (λ m. set m (l .i) o) (l .inv .2) ∙ one-owner (now (a .owners)) (now (a .out)) (l .i) (omega arith) (omega arith))
+    (omega arith, length-set (l .out) (l .i) o ∙ l .inv .1, ap (λ m. set m (l .i) o) (l .inv .2) ∙ one-placed (now (a .owners)) (now (a .out)) (l .i) (omega arith) (omega arith))
 
 same-length : tie.Need-same-length Inv-loop μ-loop
 same-length c = c .before .loop .inv .1

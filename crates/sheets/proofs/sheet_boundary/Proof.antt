@@ -9,8 +9,8 @@ use lib.Seq.{length-take-le}
 use Rattle.lent.specs.Answered.{Answered}
 use Rattle.lent.proofs.Answered.{answered-refusal}
 use Rattle.judged.proofs.Standing.{stands, refused-is, few, sets-many, pairs, polygons-at}
-use Rattle.sheets.specs.Entries.{boundaryOutcome}
-use Rattle.sheets.proofs.Judged.{refused-on, none-asked, past-asked, boundary-on}
+use Rattle.outcomes.specs.Entries.{boundaryOutcome}
+use Rattle.outcomes.proofs.Judged.{refused-on, none-asked, past-asked, boundary-on}
 use Rattle.sheets.proofs.sheet_boundary.Statement.{statement}
 use Rattle.sheets.proofs.sheet_boundary.Tie as tie
 

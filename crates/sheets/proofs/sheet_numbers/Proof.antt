@@ -7,11 +7,11 @@ use denote.Ref.{now}
 use lib.ListN.{replicate}
 use Rattle.sheet.specs.Reading.{readingOf}
 use Rattle.sheet.proofs.Fit.{numbers-fit}
-use Rattle.lent.specs.Bytes.{heldBytes}
-use Rattle.lent.proofs.Bytes.{held-length, all-length, written}
+use Rattle.little.specs.Bytes.{heldBytes}
+use Rattle.little.proofs.Bytes.{held-length, all-length, written}
 use Rattle.sheets.proofs.Room.{room, enough}
 use Rattle.lent.proofs.Answered.{answered-refusal, answered-short, answered-bytes}
-use Rattle.sheets.proofs.Outcomes.{refused-is, sheet-is}
+use Rattle.outcomes.proofs.Outcomes.{refused-is, sheet-is}
 use borrow.Author.Needs.{needs}
 use Rattle.sheets.proofs.sheet_numbers.Statement.{statement}
 use Rattle.sheets.proofs.sheet_numbers.Tie as tie

@@ -8,7 +8,7 @@ use Rattle.lent.specs.Answered.{Answered}
 use Rattle.lent.proofs.Answered.{answered-refusal}
 use Rattle.answers.specs.Answers.{setsOutcome}
 use Rattle.judged.proofs.Standing.{stands, refused-is, few, sets-many}
-use Rattle.sheets.proofs.Judged.{refused-on, owner-sets-on}
+use Rattle.outcomes.proofs.Judged.{refused-on, owner-sets-on}
 use Rattle.sheets.proofs.sheet_owner_sets.Statement.{statement}
 use Rattle.sheets.proofs.sheet_owner_sets.Tie as tie
 

@@ -9,8 +9,8 @@ use Rattle.lent.specs.Answered.{Answered}
 use Rattle.lent.proofs.Answered.{answered-refusal}
 use Rattle.answers.specs.Answers.{afterRepair, numbersAfter}
 use Rattle.judged.proofs.Standing.{stands, refused-is, few, sets-many, pairs}
-use Rattle.sheets.specs.Entries.{repairOf}
-use Rattle.sheets.proofs.Judged.{refused-on, owners-on}
+use Rattle.outcomes.specs.Entries.{repairOf}
+use Rattle.outcomes.proofs.Judged.{refused-on, owners-on}
 use Rattle.sheets.proofs.sheet_owners.Statement.{statement}
 use Rattle.sheets.proofs.sheet_owners.Tie as tie
 

@@ -4,7 +4,7 @@ use mathlib.Core.Path.{sym, _∙_}
 use native.Mathlib.Omega.{arith}
 use denote.Ref.{now}
 use Rattle.written.specs.Given.{sheetGiven}
-use Rattle.sheets.proofs.Writings.{written-refused, written-short, written-bytes, written-few}
+use Rattle.outcomes.proofs.Writings.{written-refused, written-short, written-bytes, written-few}
 use borrow.Author.Needs.{needs}
 use Rattle.sheets.proofs.sheet_write.Statement.{statement}
 use Rattle.sheets.proofs.sheet_write.Tie as tie

@@ -1,0 +1,23 @@
+-- The entries as one list, so that a promise to all of them is said once.
+use mathlib.Core.List.{List}
+use Prim.Native.Nat.{ℕ}
+use Rattle.lent.specs.Answered.{Outcome}
+use Rattle.outcomes.specs.Entries.{sheetNumbers, sheetWrite, sheetOwnerSets, sheetOwners, sheetBoundary, sheetListing}
+
+-- An entry, with what is asked of it besides the bytes: the boundary entry is asked for a polygon by its number.
+pub data Entry : Type 0 where
+  numbers : Entry
+  write : Entry
+  ownerSets : Entry
+  owners : Entry
+  boundary : (polygon : ℕ) → Entry
+  listing : Entry
+
+-- What the entry comes to for the bytes that it is given.
+abbrev pub outcomeOf : Entry → List ℕ → Outcome
+outcomeOf numbers s = sheetNumbers s
+outcomeOf write s = sheetWrite s
+outcomeOf ownerSets s = sheetOwnerSets s
+outcomeOf owners s = sheetOwners s
+outcomeOf (boundary polygon) s = sheetBoundary polygon s
+outcomeOf listing s = sheetListing s

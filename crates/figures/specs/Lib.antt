@@ -1,0 +1,2 @@
+-- The figures of the listing.
+pub mod Figures

@@ -1,0 +1,87 @@
+// The figures of the listing: how many triangles are gaps, overlaps, or a polygon's, and their double area.
+ghost use mathlib.Core.Path.{_≡_};
+ghost use mathlib.Core.List.{map};
+ghost use Prim.Native.Nat.{_*_, _≤_};
+ghost use lib.IntN.{pos};
+ghost use lib.ListN.{length};
+ghost use Rattle.whole.specs.Sums.{All};
+ghost use Rattle.plane.specs.Points.{double};
+ghost use Rattle.plane.specs.Keys.{Key};
+ghost use Rattle.table.specs.Table.{RuleA};
+ghost use Rattle.table.specs.Sides.{trianglesOf};
+ghost use Rattle.table.specs.Sets.{chosen};
+ghost use Rattle.figures.specs.Figures.{Asked, counts, marksOf, total};
+use marks::Standing;
+
+// Which triangles a figure is of: the gaps, the overlaps, those that a polygon owns before repair, or after.
+pub enum Figure {
+    Gaps,
+    Overlaps,
+    Before(u32),
+    After(u32),
+}
+
+// How many triangles there are, and their double area.
+pub struct Total {
+    pub triangles: usize,
+    pub area: u64,
+}
+
+// The double area of each triangle of a table with rule A, off its corners, three for each.
+pub fn areas(keys: &[u64], areas: &mut [u64])
+    requires { ⌜ All Key (now keys) × RuleA (trianglesOf (now keys)) × (length (now keys) ≡ 3 * length (now areas)) ⌝ }
+    ensures { λ _. ⌜ (map pos (now (areas .exit)) ≡ map double (trianglesOf (now (keys .entry)))) × All (λ a. a ≤ 800_000_000_000_000) (now (areas .exit)) ⌝ }
+{
+    let mut t: usize = 0;
+    while t < areas.len() {
+        let i = 3 * t;
+        let a = plane::corner_at(keys[i]);
+        let b = plane::corner_at(keys[i + 1]);
+        let c = plane::corner_at(keys[i + 2]);
+        areas[t] = plane::double_area(a, b, c) as u64;
+        t += 1;
+    }
+}
+
+// The figure is of a triangle with this owner set before repair and this number after.
+fn is_counted(which: Figure, set: u64, owner: usize) -> bool
+    requires { ⌜ Asked which ⌝ }
+    ensures { λ r. ⌜ r ≡ counts which set owner ⌝ }
+{
+    match which {
+        Figure::Gaps => match marks::standing_of(set) {
+            Standing::Gap => true,
+            Standing::Single(_) => false,
+            Standing::Overlap(_) => false,
+        },
+        Figure::Overlaps => match marks::standing_of(set) {
+            Standing::Gap => false,
+            Standing::Single(_) => false,
+            Standing::Overlap(_) => true,
+        },
+        Figure::Before(k) => (set >> (k - 1)) % 2 == 1,
+        Figure::After(k) => owner == k as usize,
+    }
+}
+
+// The triangles that a figure is of.
+pub fn tally(which: Figure, sets: &[u64], owners: &[usize], areas: &[u64]) -> Total
+    requires { ⌜ Asked which × (length (now sets) ≡ length (now areas)) × (length (now owners) ≡ length (now areas)) × (length (now areas) ≤ 1024) × All (λ a. a ≤ 800_000_000_000_000) (now areas) ⌝ }
+    ensures { λ r. ⌜ (r .triangles ≡ length (chosen (now (areas .entry)) (marksOf which (now (sets .entry)) (now (owners .entry)))))
+        × (r .area ≡ total (chosen (now (areas .entry)) (marksOf which (now (sets .entry)) (now (owners .entry))))) ⌝ }
+{
+    let mut triangles: usize = 0;
+    let mut area: u64 = 0;
+    let mut t: usize = 0;
+    while t < areas.len() {
+        if is_counted(which, sets[t], owners[t]) {
+            triangles += 1;
+            area += areas[t];
+        }
+        t += 1;
+    }
+    Total {
+        triangles: triangles,
+        area: area,
+    }
+}

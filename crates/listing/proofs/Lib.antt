@@ -1,0 +1,3 @@
+-- The laws of the listing.
+pub mod Front
+pub mod Sheet

@@ -1,0 +1,3 @@
+-- The printed listing.
+pub mod Listing
+pub mod Held

@@ -1,0 +1,2 @@
+-- The laws of little-endian bytes written over lent ones.
+pub mod Bytes

@@ -1,0 +1,2 @@
+-- The bytes of numbers, owner sets and sides.
+pub mod Bytes

@@ -1,0 +1,2 @@
+-- What each entry comes to.
+pub mod Entries

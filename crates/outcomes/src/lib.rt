@@ -1,0 +1,1 @@
+// No code: what each entry comes to, for every sequence of bytes.

@@ -1,0 +1,2 @@
+-- The laws of the lines.
+pub mod Lines

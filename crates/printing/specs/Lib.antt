@@ -1,0 +1,3 @@
+-- The lines of the listing.
+pub mod Lines
+pub mod Printing

@@ -1,0 +1,97 @@
+// The lines of the listing by the figures of the sheet, put together in lent text.
+ghost use mathlib.Core.Path.{_≡_};
+ghost use mathlib.Core.List.{map, _++_};
+ghost use Prim.Native.Nat.{_+_, _*_, _≤_};
+ghost use lib.ListN.{length, take};
+ghost use Rattle.regions.specs.Regions.{from};
+ghost use Rattle.printing.specs.Lines.{numbered};
+ghost use Rattle.printing.specs.Printing.{Figures, areaBy, headBy, afterBy};
+use figures::Figure;
+
+// A line for each polygon: the word, its number, and the double area of what it owns before repair or after.
+fn put_polygons(
+    text: &mut [u8],
+    at: usize,
+    word: &[u8],
+    after: bool,
+    polygons: u32,
+    sets: &[u64],
+    owners: &[usize],
+    areas: &[u64],
+) -> usize
+    requires { ⌜ Figures (now sets) (now owners) (now areas) × (polygons ≤ 64) × (length (now word) ≤ 7) × (at + 50 * polygons ≤ length (now text)) ⌝ }
+    ensures { λ r. ⌜ (r ≤ at + 50 * polygons)
+        × (take r (now (text .exit)) ≡ take at (now (text .entry)) ++ numbered (now (word .entry)) 1 (map (areaBy after (now (sets .entry)) (now (owners .entry)) (now (areas .entry))) (from 1 polygons))) ⌝ }
+{
+    let mut here = at;
+    let mut k: u32 = 0;
+    while k < polygons {
+        k += 1;
+        let which = if after {
+            Figure::After(k)
+        } else {
+            Figure::Before(k)
+        };
+        let figure = figures::tally(which, sets, owners, areas);
+        here = text::put_line(text, here, word, k as u64, figure.area);
+    }
+    here
+}
+
+// The lines up to the verdict.
+pub fn put_head(
+    text: &mut [u8],
+    polygons: u32,
+    sets: &[u64],
+    owners: &[usize],
+    areas: &[u64],
+) -> usize
+    requires { ⌜ Figures (now sets) (now owners) (now areas) × (polygons ≤ 64) × (3400 ≤ length (now text)) ⌝ }
+    ensures { λ r. ⌜ (r ≤ 3400) × (take r (now (text .exit)) ≡ headBy polygons (now (sets .entry)) (now (owners .entry)) (now (areas .entry))) ⌝ }
+{
+    let n = areas.len();
+    let first = text::put_line(text, 0, b"sheet", n as u64, polygons as u64);
+    let lines = put_polygons(
+        text,
+        first,
+        b"polygon",
+        false,
+        polygons,
+        sets,
+        owners,
+        areas,
+    );
+    let gaps = figures::tally(Figure::Gaps, sets, owners, areas);
+    let gap = text::put_line(text, lines, b"gap", gaps.triangles as u64, gaps.area);
+    let overlaps = figures::tally(Figure::Overlaps, sets, owners, areas);
+    let overlap = text::put_line(
+        text,
+        gap,
+        b"overlap",
+        overlaps.triangles as u64,
+        overlaps.area,
+    );
+    if gaps.triangles + overlaps.triangles == 0 {
+        return text::put_word(text, overlap, b"verdict clean\n");
+    }
+    text::put_word(text, overlap, b"verdict repair\n")
+}
+
+// The lines behind the verdict: what each polygon owns after repair, or that repair is refused.
+pub fn put_after(
+    text: &mut [u8],
+    at: usize,
+    done: bool,
+    polygons: u32,
+    sets: &[u64],
+    owners: &[usize],
+    areas: &[u64],
+) -> usize
+    requires { ⌜ Figures (now sets) (now owners) (now areas) × (polygons ≤ 64) × (at + 3200 ≤ length (now text)) ⌝ }
+    ensures { λ r. ⌜ (r ≤ at + 3200) × (take r (now (text .exit)) ≡ take at (now (text .entry)) ++ afterBy done polygons (now (sets .entry)) (now (owners .entry)) (now (areas .entry))) ⌝ }
+{
+    if done {
+        return put_polygons(text, at, b"after", true, polygons, sets, owners, areas);
+    }
+    text::put_line(text, at, b"refused", 30, 0)
+}

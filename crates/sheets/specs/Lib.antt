@@ -1,2 +1,0 @@
--- The entries that both products call: what each answers, and the lent bytes afterwards.
-pub mod Entries

@@ -1,0 +1,2 @@
+-- The laws of text put together.
+pub mod Texts

@@ -1,0 +1,2 @@
+-- The text of the listing.
+pub mod Text
