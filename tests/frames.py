@@ -56,24 +56,31 @@ def tally(outcomes):
     return 1 if failed else 0
 
 
-def vectors(path, entry, answer, before=lambda asked: b""):
-    """Compares answer(input, room) with the calls of an entry; what is asked for stands before the input."""
+def vectors(path, kind, compare):
+    """Goes through the lines of one kind in a file of vectors: compare(input, words) is None where they agree, else what differs."""
     agree = differ = 0
     with open(path) as f:
         for line in f:
             words = line.split()
             if words[:1] == ["input"]:
                 name, given = words[1], b"" if words[2] == "." else bytes.fromhex(words[2])
-            elif words[:2] == ["call", entry]:
-                output = None if words[5] == "-" else bytes.fromhex(words[5][1:])
-                mine = answer(before(words[2]) + given, int(words[3]))
-                if mine == (int(words[4]), output):
-                    agree += 1
-                else:
-                    differ += 1
-                    print("%s, room %s: %s here, %s there" % (name, words[3], mine[0], words[4]))
+            elif words[:len(kind)] == kind:
+                difference = compare(given, words)
+                agree += difference is None
+                differ += difference is not None
+                if difference is not None:
+                    print("%s: %s" % (name, difference))
     print("%d agree, %d differ" % (agree, differ))
     return 1 if differ else 0
+
+
+def calls(path, entry, answer, before=lambda asked: b""):
+    """Compares answer(input, room) with the calls of an entry; what is asked for stands before the input."""
+    def compare(given, words):
+        output = None if words[5] == "-" else bytes.fromhex(words[5][1:])
+        mine = answer(before(words[2]) + given, int(words[3]))
+        return None if mine == (int(words[4]), output) else "room %s: %s here, %s there" % (words[3], mine[0], words[4])
+    return vectors(path, ["call", entry], compare)
 
 
 def main(doc, **ways):

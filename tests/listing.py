@@ -103,21 +103,8 @@ def run(program):
     return outcomes
 
 
-def vectors(path):
-    agree = differ = 0
-    with open(path) as f:
-        for line in f:
-            words = line.split()
-            if words[:1] == ["input"]:
-                name, given = words[1], b"" if words[2] == "." else bytes.fromhex(words[2])
-            elif words[:1] == ["listing"]:
-                if text(given[:65_536]).encode() == bytes.fromhex(words[1]):
-                    agree += 1
-                else:
-                    differ += 1
-                    print("%s: another listing" % name)
-    print("%d agree, %d differ" % (agree, differ))
-    return 1 if differ else 0
+def differs(given, words):
+    return None if text(given[:65_536]).encode() == bytes.fromhex(words[1]) else "another listing"
 
 
 def opinions():
@@ -138,7 +125,7 @@ def opinions():
 if __name__ == "__main__":
     frames.main(
         __doc__,
-        vectors=vectors,
+        vectors=lambda file: frames.vectors(file, ["listing"], differs),
         write=lambda: frames.write(example_files()),
         check=lambda: frames.tally(opinions()),
         run=lambda program: frames.tally(run(program)))

@@ -549,5 +549,5 @@ def opinions():
 if __name__ == "__main__":
     frames.main(
         __doc__,
-        vectors=lambda file: frames.vectors(file, "sets", owner_sets),
+        vectors=lambda file: frames.calls(file, "sets", owner_sets),
         check=lambda: frames.tally(opinions()))

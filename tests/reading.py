@@ -451,4 +451,4 @@ def cases():
 
 
 if __name__ == "__main__":
-    frames.main(__doc__, vectors=lambda file: frames.vectors(file, "numbers", numbers))
+    frames.main(__doc__, vectors=lambda file: frames.calls(file, "numbers", numbers))

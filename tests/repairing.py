@@ -210,6 +210,6 @@ def opinions():
 if __name__ == "__main__":
     frames.main(
         __doc__,
-        owners=lambda file: frames.vectors(file, "owners", owners),
-        boundary=lambda file: frames.vectors(file, "boundary", boundary, before=lambda asked: struct.pack("<I", int(asked))),
+        owners=lambda file: frames.calls(file, "owners", owners),
+        boundary=lambda file: frames.calls(file, "boundary", boundary, before=lambda asked: struct.pack("<I", int(asked))),
         check=lambda: frames.tally(opinions()))

@@ -322,6 +322,6 @@ def stored():
 if __name__ == "__main__":
     frames.main(
         __doc__,
-        vectors=lambda file: frames.vectors(file, "write", answer),
+        vectors=lambda file: frames.calls(file, "write", answer),
         write=lambda: frames.write(stored()),
         check=lambda: frames.tally(frames.check(stored())))
