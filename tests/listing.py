@@ -16,7 +16,7 @@ import frames
 import owning
 import repairing
 from owning import STRIP, Table, double_area, grid, star
-from reading import Reader, Refused, collection, of, polygon, rectangle
+from reading import BIG, POLYGON, TRIANGLE, Reader, Refused, closed, collection, multipolygon, of, polygon, rectangle, table, triangle
 
 EXAMPLES = os.path.join(os.path.dirname(os.path.dirname(os.path.abspath(__file__))), "examples")
 
@@ -68,9 +68,19 @@ def cases():
     return frames_
 
 
+def nested_sheet():
+    """A square in four triangles round its middle. Polygon 1 is three parts of two nested collections, polygon 2 the rest and one triangle of polygon 1;
+    both byte orders, both types of pieces, and -0 for 0."""
+    a, b, c, d = (-0.0, 0), (4, -0.0), (4, 4), (0, 4)
+    pieces = [triangle(p, q, (2, 2), order=k % 2, kind=(TRIANGLE, POLYGON)[k // 2]) for k, (p, q) in enumerate(zip((a, b, c, d), (b, c, d, a)))]
+    parts = [polygon(closed(p, q, (2, 2)), order=k % 2) for k, (p, q) in enumerate(zip((a, b, c), (b, c, d)))]
+    inner = collection(collection(multipolygon(parts[0], order=BIG)), multipolygon(*parts[1:]), order=BIG)
+    return collection(table(*pieces, order=BIG), collection(inner), polygon([c, d, a, (2, 2), c], order=BIG))
+
+
 def examples():
-    """Sheets that a newcomer can try, by name: document 01's strip sheet, a clean one, one with gaps and overlaps, one that is refused, and the story:
-    a corner of two polygons stands on the straight boundary of the third, with the corner in the table and without it."""
+    """Sheets that a newcomer can try, by name: document 01's strip sheet, a clean one, one with gaps and overlaps, one of nested collections, one that
+    is refused, and the story: a corner of two polygons stands on the straight boundary of the third, with the corner in the table and without it."""
     left, lower, upper = polygon(rectangle(0, 2)), polygon(rectangle(2, 4, 0, 2)), polygon(rectangle(2, 4, 2, 4))
     nine = of(grid([0, 2, 4, 6], [0, 2, 4, 6]))
     with_it = star((1, 2), (0, 0), (2, 0), (2, 2), (2, 4), (0, 4)) + grid([2, 4], [0, 2, 4])
@@ -82,6 +92,7 @@ def examples():
             nine, polygon(rectangle(0, 4, 0, 4)), polygon(rectangle(2, 6, 0, 2)), polygon(rectangle(0, 2, 2, 6)), polygon(rectangle(4, 6, 4, 6))),
         "no-polygons": collection(STRIP),
         "not-carried": collection(STRIP, polygon(rectangle(0, 4)), polygon(rectangle(0, 3))),
+        "nested": nested_sheet(),
         "story": collection(of(with_it), left, lower, upper),
         "story-without-the-corner": collection(of(without), left, lower, upper),
     }

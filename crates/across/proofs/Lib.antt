@@ -1,4 +1,3 @@
 -- The laws of codes.
-pub mod Stored
 pub mod Numbered
 pub mod Looked

@@ -1,2 +1,2 @@
--- What is found once for a table: the codes of its sides, the side across each side, an order in which labels are forced.
+-- Sides of a table as codes, by which they are looked up.
 pub mod Codes

@@ -1,2 +1,2 @@
--- The laws of what a judged sheet goes on to.
+-- The laws of what is answered after repair.
 pub mod After

@@ -1,16 +1,12 @@
--- What a judged sheet goes on to in each entry: its owner sets; its owner numbers after repair; the boundary sides of a polygon.
+-- What is answered after repair: the owner number of each triangle; the boundary sides of a polygon.
 use mathlib.Core.List.{List, flatMap}
 use mathlib.Core.Option.{Option, none, some}
 use Prim.Native.Nat.{ℕ}
 use lib.ListN.{length}
 use Rattle.lent.specs.Answered.{Outcome, refusal, bytes}
-use Rattle.little.specs.Bytes.{setBytes, sideHeld}
+use Rattle.little.specs.Bytes.{sideHeld}
 use Rattle.repair.specs.Repair.{repaired}
 use Rattle.bounding.specs.Sides.{boundaryNumbers}
-
--- The owners of each triangle before repair; the item is the number of triangles.
-abbrev pub setsOutcome : List ℕ → Outcome
-setsOutcome sets = bytes (length sets) (flatMap setBytes sets)
 
 -- What is answered after repair; 30 where repair can't be done.
 abbrev pub afterRepair : (List ℕ → Outcome) → Option (List ℕ) → Outcome

@@ -1,2 +1,2 @@
--- What a judged sheet goes on to in each entry.
+-- What is answered after repair.
 pub mod Answers

@@ -1,3 +1,2 @@
 -- The laws of ascending numbers.
 pub mod Ascending
-pub mod Moves

@@ -18,8 +18,8 @@ use Rattle.table.specs.Table.{corners}
 use Rattle.table.specs.Sets.{SetOf, chosen}
 use Rattle.table.specs.Sides.{trianglesOf, Shares}
 use Rattle.counting.specs.Counting.{piecesOf, Edged, Tallied, Settled, Stray}
-use Rattle.owners.specs.Preparing.{Indexed}
-use Rattle.owners.proofs.Judged.{pieces-are, stray-refuses, shares-from, shares-to}
+use Rattle.judging.specs.Preparing.{Indexed}
+use Rattle.judging.proofs.Judged.{pieces-are, stray-refuses, shares-from, shares-to}
 
 -- With every mark all members are chosen.
 pub every-chosen : {A : Type 0} (l : List A) (s : List Bool) → length s ≡ length l → All (λ b. b ≡ true) s → chosen l s ≡ l

@@ -1,4 +1,3 @@
 -- The laws of checking a table.
-pub mod Indexing
 pub mod Framing
 pub mod Faults

@@ -7,16 +7,9 @@ use Rattle.whole.specs.Sums.{All}
 use Rattle.plane.specs.Keys.{Key}
 use Rattle.table.specs.Table.{Checked, passed, refused, checkTable}
 use Rattle.table.specs.Sides.{trianglesOf}
-use Rattle.owners.specs.Preparing.{Indexed}
+use Rattle.judging.specs.Preparing.{Indexed}
 use Rattle.checking.specs.declared.Check.{Check}
 use Rattle.checking.specs.declared.Check.the-variants.{Passed, Refused}
-
--- Work lists of one length.
-pub record Alike (n : ℕ) (t c i o : List ℕ) : Type 0 where
-  pub tails : length t ≡ n
-  pub codes : length c ≡ n
-  pub index : length i ≡ n
-  pub opposite : length o ≡ n
 
 -- The corners of n triangles, 1 to 1,024.
 pub record Tableable (keys : List ℕ) (n : ℕ) : Type 0 where

@@ -27,7 +27,7 @@ fn next_stop(corners: &[u64], at: usize, u: u64, v: u64) -> usize
         if v <= corners[i] {
             return corners.len();
         }
-        if plane::on_way(corners[i], u, v) {
+        if exact::on_way(corners[i], u, v) {
             return i;
         }
         i += 1;
@@ -58,7 +58,7 @@ fn stops(corner: bool, u: u64, end: u64, low: u64, high: u64) -> bool
         return true;
     }
     if corner {
-        return plane::on_way(u, low, high);
+        return exact::on_way(u, low, high);
     }
     false
 }

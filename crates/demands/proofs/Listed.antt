@@ -24,9 +24,11 @@ use Rattle.written.specs.Held.{SheetHeld, sheet, readSheet}
 use Rattle.written.proofs.Held.{read-sheet-is, reads-held}
 use Rattle.lent.specs.Answered.{Outcome, refusal, bytes}
 use Rattle.little.specs.Bytes.{heldBytes}
-use Rattle.answers.specs.Answers.{setsOutcome, afterRepair, numbersAfter}
+use Rattle.set_bytes.specs.Sets.{setsOutcome}
+use Rattle.answers.specs.Answers.{afterRepair, numbersAfter}
 use Rattle.judged.specs.Judged.{JudgedSheet, judged, refusal as refused, judgedSheet}
-use Rattle.outcomes.specs.Entries.{writeOutcome, onJudged, repairOf, sidesAfter, ownedSides, boundaryOutcome}
+use Rattle.written.specs.Given.{writeOutcome}
+use Rattle.outcomes.specs.Entries.{onJudged, repairOf, sidesAfter, ownedSides, boundaryOutcome}
 use Rattle.demands.specs.Refusals.{Row, alone, rows, stands, Listed}
 use Rattle.demands.specs.Entries.{Entry, numbers, write, ownerSets, owners, boundary, listing, outcomeOf}
 use Rattle.demands.proofs.Stages.{read-lawful, refused-by}

@@ -8,12 +8,8 @@ use lib.ListN.{length, take, drop, set, length-append}
 use lib.Seq.{sets, length-sets, sets-eq, take-at, drop-at}
 use Rattle.whole.specs.Sums.{All}
 use Rattle.plane.specs.Keys.{Key, pair, pairs}
+use Rattle.little.proofs.Stored.{sets-++}
 use Rattle.edges.specs.Standing.{Stored}
-
-sets-sets : (l : List ℕ) (i : ℕ) (u v : List ℕ) → sets (sets l i u) (i + length u) v ≡ sets l i (u ++ v)
-sets-sets l i [] v = let e : i + 0 ≡ i = omega arith in ap (λ n. sets l n v) e
-sets-sets l i (a ∷ u) v =
-    let e : i + suc (length u) ≡ suc i + length u = omega arith in ap (λ n. sets (sets (set l i a) (suc i) u) n v) e ∙ sets-sets (set l i a) (suc i) u v
 
 all-++ : {A : Type 0} (P : A → Type 0) (l m : List A) → All P l → All P m → All P (l ++ m)
 all-++ P [] m h k = k
@@ -41,8 +37,8 @@ pub stored-more : {from₀ to₀ from₁ to₁ from₂ to₂ s t u v : List ℕ}
 stored-more {from₀} {to₀} {s = s} {t = t} {u = u} {v = v} {fill = fill} {next = next} p q =
     let e : next ≡ fill + length t = omega arith in
     record {
-      from-is = q .from-is ∙ ap₂ (λ l n. sets l n u) (p .from-is) (p .next-is) ∙ sets-sets from₀ fill s u;
-      to-is = q .to-is ∙ ap₂ (λ l n. sets l n v) (p .to-is) e ∙ sets-sets to₀ fill t v;
+      from-is = q .from-is ∙ ap₂ (λ l n. sets l n u) (p .from-is) (p .next-is) ∙ sets-++ from₀ s u fill;
+      to-is = q .to-is ∙ ap₂ (λ l n. sets l n v) (p .to-is) e ∙ sets-++ to₀ t v fill;
       next-is = omega (arith, length-append s u);
       as-many = omega (arith, length-append s u, length-append t v);
       from-keys = all-++ Key s u (p .from-keys) (q .from-keys);

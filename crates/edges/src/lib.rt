@@ -25,7 +25,7 @@ fn point(numbers: &[u32], at: usize) -> u64
     requires { ⌜ at + 1 < length (now numbers) ⌝ }
     ensures { λ r. ⌜ r ≡ keyOf (cornerAt (now (numbers .entry)) at) ⌝ }
 {
-    plane::key(Corner {
+    corner::key(Corner {
         x: numbers[at],
         y: numbers[at + 1],
     })

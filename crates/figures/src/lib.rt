@@ -1,14 +1,8 @@
 // The figures of the listing: how many triangles are gaps, overlaps, or a polygon's, and their double area.
 ghost use mathlib.Core.Path.{_≡_};
-ghost use mathlib.Core.List.{map};
-ghost use Prim.Native.Nat.{_*_, _≤_};
-ghost use lib.IntN.{pos};
+ghost use Prim.Native.Nat.{_≤_};
 ghost use lib.ListN.{length};
 ghost use Rattle.whole.specs.Sums.{All};
-ghost use Rattle.plane.specs.Points.{double};
-ghost use Rattle.plane.specs.Keys.{Key};
-ghost use Rattle.table.specs.Table.{RuleA};
-ghost use Rattle.table.specs.Sides.{trianglesOf};
 ghost use Rattle.table.specs.Sets.{chosen};
 ghost use Rattle.figures.specs.Figures.{Asked, counts, marksOf, total};
 use marks::Standing;
@@ -25,22 +19,6 @@ pub enum Figure {
 pub struct Total {
     pub triangles: usize,
     pub area: u64,
-}
-
-// The double area of each triangle of a table with rule A, off its corners, three for each.
-pub fn areas(keys: &[u64], areas: &mut [u64])
-    requires { ⌜ All Key (now keys) × RuleA (trianglesOf (now keys)) × (length (now keys) ≡ 3 * length (now areas)) ⌝ }
-    ensures { λ _. ⌜ (map pos (now (areas .exit)) ≡ map double (trianglesOf (now (keys .entry)))) × All (λ a. a ≤ 800_000_000_000_000) (now (areas .exit)) ⌝ }
-{
-    let mut t: usize = 0;
-    while t < areas.len() {
-        let i = 3 * t;
-        let a = plane::corner_at(keys[i]);
-        let b = plane::corner_at(keys[i + 1]);
-        let c = plane::corner_at(keys[i + 2]);
-        areas[t] = plane::double_area(a, b, c) as u64;
-        t += 1;
-    }
 }
 
 // The figure is of a triangle with this owner set before repair and this number after.

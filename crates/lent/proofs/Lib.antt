@@ -1,3 +1,3 @@
--- The laws of bytes written over lent ones.
+-- The laws of answers and of bytes written over lent ones.
 pub mod Answered
 pub mod Placed

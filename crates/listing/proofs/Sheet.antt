@@ -27,7 +27,7 @@ use Rattle.judged.proofs.Repaired.{judged-owners, judged-rules, pairs-up}
 use Rattle.judged.proofs.Figures.{polygons-before, polygons-after, gaps-are, overlaps-are, figure-lines, verdict-is}
 use Rattle.text.specs.Text.{lineOf}
 use Rattle.printing.specs.Lines.{sheetWord, polygonWord, gapWord, overlapWord, afterWord, cleanLine, repairLine, numbered}
-use Rattle.printing.specs.Printing.{Figures, lineBy, verdictBy, headBy, afterBy}
+use Rattle.printing.specs.Printing.{Figures, lineBy, verdictBy, headBy, afterBy, linesBy}
 use Rattle.listing.specs.Listing.{isSingle, figureLine, verdictLine, headOf, afterLines, listingOf}
 use Rattle.listing.specs.Held.{Judged, AreasOf}
 
@@ -87,7 +87,7 @@ module _ {n : Sheet} {numbers opposite l : List ℕ} (j : Judged n numbers oppos
 
     -- The lines by the figures are the listing.
     pub listing-is : (done : Bool) → repairedAs done owners ≡ repaired opposite l
-        → headBy (length (n .polygons)) l owners areas ++ afterBy done (length (n .polygons)) l owners areas ≡ listingOf n l
+        → linesBy done (length (n .polygons)) l owners areas ≡ listingOf n l
     listing-is done e = ap₂ _++_ head-is (after-is done e)
 
 -- What stands in the lists of a judged sheet is a judged sheet as it is held here.

@@ -36,7 +36,7 @@ fn lay_areas(numbers: &[u32], areas: &mut [u64])
     let n = areas.len();
     let mut keys = corner_list();
     edges::corners(&numbers[..1 + 6 * n], &mut keys[..3 * n]);
-    figures::areas(&keys[..3 * n], areas);
+    areas::areas(&keys[..3 * n], areas);
 }
 
 // The listing of a judged sheet.
@@ -50,8 +50,7 @@ fn put_judged(numbers: &[u32], opposite: &[usize], sets: &[u64], text: &mut [u8]
     let mut owners = owner_list();
     lay_areas(numbers, &mut areas[..n]);
     let done = repair::repair(opposite, sets, &mut owners[..n]);
-    let at = printing::put_head(text, polygons, sets, &owners[..n], &areas[..n]);
-    printing::put_after(text, at, done, polygons, sets, &owners[..n], &areas[..n])
+    printing::put_lines(text, done, polygons, sets, &owners[..n], &areas[..n])
 }
 
 fn number_list() -> [u32; 16450]

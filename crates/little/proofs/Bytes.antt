@@ -1,16 +1,13 @@
--- Numbers written as bytes over the front of lent ones, w bytes for each: one number more is w stores behind the last. And bytes stored behind bytes.
--- Assumes nothing.
+-- Numbers written as bytes over the front of lent ones, w bytes for each: one number more is w stores behind the last. Assumes nothing.
 use mathlib.Core.Path.{_≡_, refl, sym, _∙_, ap, ap₂}
 use mathlib.Core.List.{List, [], _∷_, _++_, flatMap, append-nil}
-use Prim.Native.Nat.{ℕ, suc, _+_, _*_, _≤_, _<_}
+use Prim.Native.Nat.{ℕ, _+_, _*_, _≤_, _<_}
 use native.Mathlib.Numerals.{add-one}
 use native.Mathlib.Omega.{arith}
-use lib.ListN.{length, getD, take, drop, set, length-append, length-drop}
+use lib.ListN.{length, getD, take, drop, length-append, length-drop}
 use lib.Seq.{take-suc, take-at, sets, sets-eq, drop-drop, drop-append-add, length-take-le}
 use Rattle.whole.proofs.Sums.{flatMap-++}
-use Rattle.wkb.specs.Bytes.{bytes}
-use Rattle.sheet.specs.Going.{laid}
-use Rattle.sheet.proofs.Laid.{laid-front}
+use Rattle.little.specs.Ordered.{bytes}
 use Rattle.little.specs.Bytes.{heldBytes, setBytes, cornerHeld, sideHeld}
 
 pub held-length : (h : ℕ) → length (heldBytes h) ≡ 4
@@ -28,11 +25,6 @@ corner-length numbers c = refl
 pub side-length : (numbers : List ℕ) (k : ℕ) → length (sideHeld numbers k) ≡ 16
 unfolding bytes
 side-length numbers k = refl
-
--- Bytes stored behind bytes stored are all of them stored from the first one's place.
-pub sets-behind : (o l m : List ℕ) (i j : ℕ) → j ≡ i + length l → sets (sets o i l) j m ≡ sets o i (l ++ m)
-sets-behind o [] m i j e = let f : j ≡ i = omega arith in ap (λ n. sets o n m) f
-sets-behind o (b ∷ l) m i j e = sets-behind (set o i b) l m (suc i) j (omega arith)
 
 module _ (w : ℕ) (f : ℕ → List ℕ) (size : (x : ℕ) → length (f x) ≡ w) where
   pub all-length : (l : List ℕ) → length (flatMap f l) ≡ w * length l
@@ -68,8 +60,3 @@ module _ (w : ℕ) (f : ℕ → List ℕ) (size : (x : ℕ) → length (f x) ≡
 
       grown : flatMap f (take (i + 1) numbers) ≡ x ++ v
       grown = rw (add-one, take-suc numbers i 0) (flatMap-++ f (take i numbers) (getD numbers i 0 ∷ []) ∙ ap (λ a. x ++ a) (append-nil v))
-
--- The numbers that reading laid into a work array with room for them, written as bytes.
-pub written : (l work last lent : List ℕ) (n : ℕ) → last ≡ laid l work → length l ≤ length work → n ≡ length l
-    → flatMap heldBytes (take n last) ++ drop (4 * n) lent ≡ flatMap heldBytes l ++ drop (length (flatMap heldBytes l)) lent
-written l work last lent n e h q = ap₂ (λ a k. flatMap heldBytes a ++ drop k lent) (ap₂ take q e ∙ laid-front l work h) (ap (λ k. 4 * k) q ∙ sym (all-length 4 heldBytes held-length l))

@@ -1,11 +1,17 @@
 -- The bytes of answers: coordinates and counts, owner sets, sides.
 use mathlib.Core.List.{List, _++_}
 use Prim.Native.Nat.{ℕ, _+_, _-_, _*_, _%_, _≤_}
+use lib.IntN.{ℤ}
 use lib.ListN.{length, getD}
+use mir.Syntax.{w32}
+use mir.Val.{ofZ}
 use Rattle.plane.specs.Corners.{millimetres}
 use Rattle.plane.specs.Points.{Point, Edge}
-use Rattle.wkb.specs.Bytes.{bytes as bytesIn}
-use Rattle.sheet.specs.Numbers.{i32}
+use Rattle.little.specs.Ordered.{bytes}
+
+-- A number as a little-endian i32.
+abbrev pub i32 : ℤ → List ℕ
+i32 z = bytes 4 (ofZ w32 z)
 
 -- A held number as a little-endian i32.
 abbrev pub heldBytes : ℕ → List ℕ
@@ -13,7 +19,7 @@ heldBytes h = i32 (millimetres h)
 
 -- An owner set as a little-endian u64.
 abbrev pub setBytes : ℕ → List ℕ
-setBytes x = bytesIn 8 x
+setBytes x = bytes 8 x
 
 -- A side uv: ux, uy, vx, vy as little-endian i32.
 abbrev pub pointBytes : Point → List ℕ

@@ -1,2 +1,3 @@
--- The bytes of numbers, owner sets and sides.
+-- Numbers as bytes in either byte order; the bytes of numbers, owner sets and sides.
+pub mod Ordered
 pub mod Bytes

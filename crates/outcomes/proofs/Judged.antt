@@ -14,7 +14,8 @@ use Rattle.sheet.specs.Numbers.{Sheet}
 use Rattle.lent.specs.Answered.{Outcome, refusal, bytes}
 use Rattle.repair.proofs.OneOwner.{repaired-length}
 use Rattle.bounding.specs.Sides.{boundaryNumbers}
-use Rattle.answers.specs.Answers.{setsOutcome, afterRepair, numbersAfter, ownersOutcome, sidesHeld, sidesOutcome}
+use Rattle.set_bytes.specs.Sets.{setsOutcome}
+use Rattle.answers.specs.Answers.{afterRepair, numbersAfter, ownersOutcome, sidesHeld, sidesOutcome}
 use Rattle.listing.specs.Listing.{listing}
 use Rattle.judged.specs.Judged.{judgedSheet, refusal as refused, Stands}
 use Rattle.judged.proofs.Standing.{once, sets-many}

@@ -1,5 +1,4 @@
 -- The laws of what the entries come to.
 pub mod Outcomes
-pub mod Writings
 pub mod Judged
 pub mod Trip

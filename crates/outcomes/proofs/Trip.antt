@@ -14,9 +14,9 @@ use lib.Dec.{eqb}
 use lib.ListN.{length}
 use Rattle.whole.specs.Sums.{All}
 use Rattle.plane.specs.Corners.{millimetres}
-use Rattle.wkb.specs.Bytes.{number, bytes}
-use Rattle.wkb.proofs.Bytes.{number-below, bytes-number}
-use Rattle.sheet.specs.Numbers.{Sheet, i32}
+use Rattle.little.specs.Ordered.{number, bytes}
+use Rattle.little.proofs.Ordered.{number-below, bytes-number}
+use Rattle.sheet.specs.Numbers.{Sheet}
 use Rattle.sheet.specs.Reading.{readingOf}
 use Rattle.written.specs.Form.{sheetIn, numbersIn}
 use Rattle.written.specs.Fits.{sheetFits}
@@ -26,7 +26,7 @@ use Rattle.written.proofs.Form.{form-is}
 use Rattle.written.proofs.Sized.{given-fits}
 use Rattle.written.proofs.Trip.{round-trip}
 use Rattle.lent.specs.Answered.{bytes as wrote}
-use Rattle.little.specs.Bytes.{heldBytes}
+use Rattle.little.specs.Bytes.{i32, heldBytes}
 use Rattle.outcomes.specs.Entries.{sheetNumbers}
 use Rattle.little.proofs.Bytes.{held-length, all-length}
 

@@ -1,7 +1,7 @@
 -- What each entry comes to.
 use mathlib.Core.Bool.{cond, _&&_}
 use mathlib.Core.List.{List, flatMap}
-use mathlib.Core.Option.{Option, none, some}
+use mathlib.Core.Option.{Option}
 use Prim.Native.Nat.{ℕ, _*_}
 use lib.Dec.{eqb, leb}
 use lib.ListN.{length}
@@ -10,15 +10,15 @@ use Rattle.plane.specs.Boundaries.{sidesOf}
 use Rattle.table.specs.Sides.{opposites}
 use Rattle.sheet.specs.Numbers.{Sheet}
 use Rattle.sheet.specs.Reading.{Reading, readingOf}
-use Rattle.written.specs.Normal.{written}
-use Rattle.written.specs.Given.{sheetGiven}
+use Rattle.written.specs.Given.{sheetGiven, writeOutcome}
 use Rattle.judged.specs.Judged.{JudgedSheet, judged, refusal as refused, judgedSheet}
 use Rattle.repair.specs.Repair.{repaired}
 use Rattle.bounding.specs.Sides.{boundarySides, trianglesOwned}
 use Rattle.lent.specs.Answered.{Outcome, refusal, bytes}
 use Rattle.little.specs.Bytes.{heldBytes, sideBytes}
 use Rattle.listing.specs.Listing.{listing}
-use Rattle.answers.specs.Answers.{setsOutcome, afterRepair, numbersAfter}
+use Rattle.set_bytes.specs.Sets.{setsOutcome}
+use Rattle.answers.specs.Answers.{afterRepair, numbersAfter}
 
 -- The numbers form of a reading, its length in bytes being the item; or the reading's refusal.
 abbrev pub numbersOutcome : Reading → Outcome
@@ -28,12 +28,7 @@ numbersOutcome r = cond (eqb (r .code) 0) (bytes (4 * length (r .numbers)) (flat
 abbrev pub sheetNumbers : List ℕ → Outcome
 sheetNumbers s = numbersOutcome (readingOf s)
 
--- The normal bytes of the sheet that the numbers give, their number being the item; else 42.
-abbrev pub writeOutcome : Option Sheet → Outcome
-writeOutcome none = refusal 42 0
-writeOutcome (some n) = bytes (length (written n)) (written n)
-
--- sheet_write.
+-- sheet_write: the normal bytes of the sheet that the numbers give, else 42.
 abbrev pub sheetWrite : List ℕ → Outcome
 sheetWrite s = writeOutcome (sheetGiven s)
 

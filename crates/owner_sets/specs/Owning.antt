@@ -1,6 +1,6 @@
 -- How the code's answers show what a sheet comes to: one polygon judged, all polygons judged, the owner sets.
 use mathlib.Core.Path.{_≡_}
-use mathlib.Core.Bool.{Bool, true}
+use mathlib.Core.Bool.{Bool}
 use mathlib.Core.List.{List, map}
 use Prim.Native.Nat.{ℕ, zero, suc, _*_, _≤_}
 use lib.IntN.{ℤ}
@@ -15,19 +15,17 @@ use Rattle.sheet.specs.Numbers.{Sheet, counted, memberNumbers}
 use Rattle.edges.specs.Standing.{Stands}
 use Rattle.owners.specs.Judging.{judge, notCarried, code}
 use Rattle.owners.specs.Owners.{Owned, sets, refusal, ownersOf}
-use Rattle.owners.specs.Preparing.{judgedOf}
+use Rattle.judging.specs.Preparing.{judgedOf}
 use Rattle.owner_sets.specs.declared.Owning.{Owning}
 use Rattle.owner_sets.specs.declared.Owning.the-variants.{Sets, Refused as Refusal}
 use Rattle.owner_sets.specs.declared.Turn.{Turn}
 
--- Work lists for n triangles: three places for each in the first three, one in the last two; all labels are set.
-pub record Lists (n : ℕ) (k r c : List ℕ) (l : List Bool) (o : List ℕ) : Type 0 where
-  pub keys : length k ≡ 3 * n
-  pub ordered : length r ≡ 3 * n
-  pub counts : length c ≡ 3 * n
-  pub labels : length l ≡ n
-  pub order : length o ≡ n
-  pub all-set : All (λ b. b ≡ true) l
+-- Work lists of one length.
+pub record Lists (n : ℕ) (k r i o : List ℕ) : Type 0 where
+  pub keys : length k ≡ n
+  pub ordered : length r ≡ n
+  pub index : length i ≡ n
+  pub opposite : length o ≡ n
 
 -- A polygon stands at the place, with at most 4,096 edges.
 pub record PolygonAt (numbers : List ℕ) (at : ℕ) (m : Member) (rest : List ℤ) : Type 0 where

@@ -1,6 +1,5 @@
 // From a sheet in numbers to its owner sets: the table rules in their order, then the judging of the polygons in number order.
 ghost use mathlib.Core.Path.{_≡_};
-ghost use mathlib.Core.Bool.{true};
 ghost use mathlib.Core.List.{List};
 ghost use Prim.Native.Nat.{ℕ, _+_, _*_, _≤_, _<_};
 ghost use lib.IntN.{ℤ};
@@ -13,11 +12,10 @@ ghost use Rattle.table.specs.Sides.{trianglesOf};
 ghost use Rattle.sheet.specs.Numbers.{Sheet};
 ghost use Rattle.written.specs.Held.{SheetHeld};
 ghost use Rattle.owners.specs.Owners.{ofOwnership, judgeFrom};
-ghost use Rattle.owners.specs.Preparing.{Indexed, Prepared};
-ghost use Rattle.checking.specs.Checking.{Alike};
+ghost use Rattle.judging.specs.Preparing.{Indexed, Prepared};
 ghost use Rattle.owner_sets.specs.Owning.{Lists, PolygonAt, TurnOf, PolygonsAt, ownedBy, ownedAs, OneEach, OwnedOf};
 use checking::Check;
-use owners::Judging;
+use judging::Judging;
 
 // What a sheet comes to: the owner sets of so many triangles, or a refusal with its number and item.
 pub enum Owning {
@@ -51,7 +49,7 @@ fn judge_at(
 {
     let laid = edges::polygon(numbers, at, from, to);
     let n = laid.fill;
-    let judging = owners::judge(
+    let judging = judging::judge(
         ordered,
         index,
         opposite,
@@ -127,8 +125,8 @@ fn clear(sets: &mut [u64])
     }
 }
 
-// The polygons of a table that passes, judged in an order found once; the owner sets, or 20.
-fn judge_all(
+// The polygons of a table that passes, judged in an order found once, in work lists of the right lengths; the owner sets, or 20.
+fn judge_in(
     numbers: &[u32],
     ordered: &[u64],
     index: &[u64],
@@ -165,63 +163,59 @@ fn judge_all(
     Owning::Sets(t)
 }
 
+// The polygons of a table that passes; the owner sets, or 20.
+fn judge_all(
+    numbers: &[u32],
+    ordered: &[u64],
+    index: &[u64],
+    opposite: &[usize],
+    sets: &mut [u64],
+) -> Owning
+    requires { ⌜ ((keys : List ℕ) × Indexed keys (now ordered) (now index) (now opposite) × RuleA (trianglesOf keys) × (length (now sets) ≡ length (trianglesOf keys)) × (length (trianglesOf keys) ≤ 1024))
+        × ((n : Sheet) × SheetHeld n (now numbers) × (length (n .table) ≡ length (now sets))) ⌝ }
+    ensures { λ r. ⌜ OneEach r (length (now (sets .entry))) × ((keys : List ℕ) (n : Sheet) → Indexed keys (now (ordered .entry)) (now (index .entry)) (now (opposite .entry)) → RuleA (trianglesOf keys) → SheetHeld n (now (numbers .entry)) → trianglesOf keys ≡ n .table
+        → length (now (sets .entry)) ≡ length (trianglesOf keys) → ownedAs r (now (sets .exit)) ≡ ofOwnership (length (n .table)) (judgeFrom (n .table) 1 (n .polygons))) ⌝ }
+{
+    let t = sets.len();
+    let mut counts = [0u32; 3072];
+    let mut labels = [false; 1024];
+    let mut order = [0usize; 1024];
+    judge_in(
+        numbers,
+        ordered,
+        index,
+        opposite,
+        &mut counts[..3 * t],
+        &mut labels[..t],
+        &mut order[..t],
+        sets,
+    )
+}
+
 // The sheet in numbers with work lists of the right lengths.
 fn owned(
     numbers: &[u32],
     keys: &mut [u64],
     ordered: &mut [u64],
-    tails: &mut [u64],
-    codes: &mut [u64],
     index: &mut [u64],
     opposite: &mut [usize],
-    counts: &mut [u32],
-    labels: &mut [bool],
-    order: &mut [usize],
     sets: &mut [u64],
 ) -> Owning
-    requires { ⌜ ((n : Sheet) × SheetHeld n (now numbers) × (length (n .table) ≡ length (now sets))) × Lists (length (now sets)) (now keys) (now ordered) (now counts) (now labels) (now order) × Alike (3 * length (now sets)) (now tails) (now codes) (now index) (now opposite) ⌝ }
+    requires { ⌜ ((n : Sheet) × SheetHeld n (now numbers) × (length (n .table) ≡ length (now sets))) × Lists (3 * length (now sets)) (now keys) (now ordered) (now index) (now opposite) ⌝ }
     ensures { λ r. ⌜ ((n : Sheet) → SheetHeld n (now (numbers .entry)) → length (n .table) ≡ length (now (sets .entry)) → OwnedOf n r (now (opposite .exit)) (now (sets .exit))) ⌝ }
 {
     edges::corners(numbers, keys);
-    match checking::check_table(keys, ordered, tails, codes, index, opposite, counts, labels) {
+    match checking::check_table(keys, ordered, index, opposite) {
         Check::Refused(code, item) => Owning::Refused(code, item),
-        Check::Passed(n) => judge_all(
-            numbers,
-            &ordered[..n],
-            index,
-            opposite,
-            counts,
-            labels,
-            order,
-            sets,
-        ),
+        Check::Passed(n) => judge_all(numbers, &ordered[..n], index, opposite, sets),
     }
 }
 
-// Work lists for the largest table: three places for each triangle, and one.
+// A work list for the largest table: three places for each triangle.
 fn corner_list() -> [u64; 3072]
     ensures { λ r. ⌜ 3072 ≡ length r ⌝ }
 {
     [0; 3072]
-}
-
-fn count_list() -> [u32; 3072]
-    ensures { λ r. ⌜ 3072 ≡ length r ⌝ }
-{
-    [0; 3072]
-}
-
-fn triangle_list() -> [usize; 1024]
-    ensures { λ r. ⌜ 1024 ≡ length r ⌝ }
-{
-    [0; 1024]
-}
-
-// A label for each triangle, all set.
-fn all_labels() -> [bool; 1024]
-    ensures { λ r. ⌜ (1024 ≡ length r) × All (λ b. b ≡ true) r ⌝ }
-{
-    [true; 1024]
 }
 
 // The owner sets of the sheet in numbers, laid down at the front of the lent ones, and beside them the number of the reverse of each side; or
@@ -234,23 +228,13 @@ pub fn owner_sets(numbers: &[u32], opposite: &mut [usize], sets: &mut [u64]) -> 
     let m = 3 * t;
     let mut keys = corner_list();
     let mut ordered = corner_list();
-    let mut tails = corner_list();
-    let mut codes = corner_list();
     let mut index = corner_list();
-    let mut counts = count_list();
-    let mut labels = all_labels();
-    let mut order = triangle_list();
     owned(
         numbers,
         &mut keys[..m],
         &mut ordered[..m],
-        &mut tails[..m],
-        &mut codes[..m],
         &mut index[..m],
         &mut opposite[..m],
-        &mut counts[..m],
-        &mut labels[..t],
-        &mut order[..t],
         &mut sets[..t],
     )
 }

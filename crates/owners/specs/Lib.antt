@@ -1,5 +1,4 @@
 -- Who owns a triangle: the judging of one member and of all polygons, and document 01's starred examples.
 pub mod Judging
 pub mod Owners
-pub mod Preparing
 pub mod Examples

@@ -32,7 +32,7 @@ lineBy word figure l owners areas = lineOf word (pos (length (chosen areas (mark
 abbrev pub verdictBy : List ℕ → List ℕ → List ℕ → List ℕ
 verdictBy l owners areas = cond (eqb (length (chosen areas (marksOf Gaps l owners)) + length (chosen areas (marksOf Overlaps l owners))) 0) cleanLine repairLine
 
--- The lines of a sheet with so many polygons, by its figures: those up to the verdict, and those behind it.
+-- The lines of a sheet with so many polygons up to the verdict, by its figures.
 abbrev pub headBy : ℕ → List ℕ → List ℕ → List ℕ → List ℕ
 headBy polygons l owners areas =
     lineOf sheetWord (pos (length areas)) (pos polygons)
@@ -41,9 +41,14 @@ headBy polygons l owners areas =
     ++ lineBy overlapWord Overlaps l owners areas
     ++ verdictBy l owners areas
 
+-- The lines behind the verdict: what each polygon owns after repair, or that repair is refused.
 abbrev pub afterBy : Bool → ℕ → List ℕ → List ℕ → List ℕ → List ℕ
 afterBy true polygons l owners areas = numbered afterWord 1 (map (areaBy true l owners areas) (from 1 polygons))
 afterBy false polygons l owners areas = lineOf refusedWord (pos 30) (pos 0)
+
+-- All of its lines.
+abbrev pub linesBy : Bool → ℕ → List ℕ → List ℕ → List ℕ → List ℕ
+linesBy done polygons l owners areas = headBy polygons l owners areas ++ afterBy done polygons l owners areas
 
 -- The lists of a sheet's figures: an owner set, an owner number and a double area for each triangle.
 pub record Figures (l owners areas : List ℕ) : Type 0 where

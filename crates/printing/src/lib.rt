@@ -5,7 +5,7 @@ ghost use Prim.Native.Nat.{_+_, _*_, _≤_};
 ghost use lib.ListN.{length, take};
 ghost use Rattle.regions.specs.Regions.{from};
 ghost use Rattle.printing.specs.Lines.{numbered};
-ghost use Rattle.printing.specs.Printing.{Figures, areaBy, headBy, afterBy};
+ghost use Rattle.printing.specs.Printing.{Figures, areaBy, headBy, afterBy, linesBy};
 use figures::Figure;
 
 // A line for each polygon: the word, its number, and the double area of what it owns before repair or after.
@@ -39,13 +39,7 @@ fn put_polygons(
 }
 
 // The lines up to the verdict.
-pub fn put_head(
-    text: &mut [u8],
-    polygons: u32,
-    sets: &[u64],
-    owners: &[usize],
-    areas: &[u64],
-) -> usize
+fn put_head(text: &mut [u8], polygons: u32, sets: &[u64], owners: &[usize], areas: &[u64]) -> usize
     requires { ⌜ Figures (now sets) (now owners) (now areas) × (polygons ≤ 64) × (3400 ≤ length (now text)) ⌝ }
     ensures { λ r. ⌜ (r ≤ 3400) × (take r (now (text .exit)) ≡ headBy polygons (now (sets .entry)) (now (owners .entry)) (now (areas .entry))) ⌝ }
 {
@@ -78,7 +72,7 @@ pub fn put_head(
 }
 
 // The lines behind the verdict: what each polygon owns after repair, or that repair is refused.
-pub fn put_after(
+fn put_after(
     text: &mut [u8],
     at: usize,
     done: bool,
@@ -94,4 +88,20 @@ pub fn put_after(
         return put_polygons(text, at, b"after", true, polygons, sets, owners, areas);
     }
     text::put_line(text, at, b"refused", 30, 0)
+}
+
+// The lines of a judged sheet, at the front of the text.
+pub fn put_lines(
+    text: &mut [u8],
+    done: bool,
+    polygons: u32,
+    sets: &[u64],
+    owners: &[usize],
+    areas: &[u64],
+) -> usize
+    requires { ⌜ Figures (now sets) (now owners) (now areas) × (polygons ≤ 64) × (6600 ≤ length (now text)) ⌝ }
+    ensures { λ r. ⌜ (r ≤ 6600) × (take r (now (text .exit)) ≡ linesBy done polygons (now (sets .entry)) (now (owners .entry)) (now (areas .entry))) ⌝ }
+{
+    let at = put_head(text, polygons, sets, owners, areas);
+    put_after(text, at, done, polygons, sets, owners, areas)
 }

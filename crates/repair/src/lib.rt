@@ -24,7 +24,7 @@ fn owner_of(set: u64) -> usize
 }
 
 // The owner number of each triangle once the overlaps are settled.
-pub fn settle(sets: &[u64], numbers: &mut [usize])
+fn settle(sets: &[u64], numbers: &mut [usize])
     requires { ⌜ length (now sets) ≡ length (now numbers) ⌝ }
     ensures { λ _. ⌜ now (numbers .exit) ≡ settled (now (sets .entry)) ⌝ }
 {

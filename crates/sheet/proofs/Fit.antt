@@ -13,10 +13,10 @@ use Rattle.coordinate.specs.declared.Coordinate.{Coordinate}
 use Rattle.coordinate.specs.declared.Coordinate.the-variants.{Whole, Not}
 use Rattle.whole.proofs.Sums.{and-left, and-right, and-both}
 use Rattle.wkb.specs.declared.Cursor.{Cursor}
-use Rattle.wkb.specs.declared.Slot.{Slot}
-use Rattle.wkb.specs.declared.Slot.the-variants.{Sheet, Table, Piece, Part, Member}
+use Rattle.kinds.specs.declared.Slot.{Slot}
+use Rattle.kinds.specs.declared.Slot.the-variants.{Sheet, Table, Piece, Part, Member}
 use Rattle.wkb.specs.declared.Step.{Step}
-use Rattle.wkb.specs.Bytes.{remains, wordAt, doubleAt}
+use Rattle.little.specs.Ordered.{remains, wordAt, doubleAt}
 use Rattle.wkb.specs.Steps.{start, slotOf, complete, kindFault, countFits, popped, withRings, withParts, withMembers, withSheet, fewerParts, opened, geometryAt, ringFits, ringAt, afterPoint, pointAt, endAt, stepAt}
 use Rattle.sheet.specs.Reading.{Taken, Reading, Turn, on, over, held, begin, polygon, opening, noted, judged, taken, turn, run, readingOf, nothing}
 use Rattle.sheet.proofs.Sized.{same, other, is-yes, is-no, sheet, first, table, after, Sized, at-most, one-more, point-sized, ring-sized}

@@ -12,11 +12,11 @@ use Rattle.coordinate.specs.Coordinate.{coordinateOf}
 use Rattle.coordinate.specs.declared.Coordinate.{Coordinate}
 use Rattle.coordinate.specs.declared.Coordinate.the-variants.{Whole, Not}
 use Rattle.wkb.specs.declared.Cursor.{Cursor}
-use Rattle.wkb.specs.declared.Slot.{Slot}
-use Rattle.wkb.specs.declared.Slot.the-variants.{Sheet, Table, Piece, Part, Member}
+use Rattle.kinds.specs.declared.Slot.{Slot}
+use Rattle.kinds.specs.declared.Slot.the-variants.{Sheet, Table, Piece, Part, Member}
 use Rattle.wkb.specs.declared.Step.{Step}
 use Rattle.wkb.specs.declared.Step.the-variants.{Geometry, Ring, Point, End, Refused}
-use Rattle.wkb.specs.Bytes.{remains, wordAt}
+use Rattle.little.specs.Ordered.{remains, wordAt}
 use Rattle.wkb.specs.Steps.{start, slotOf, complete, renewed, kindFault, countFits, withRings, withParts, withMembers, withSheet, fewerParts, opened, geometryAt, ringFits, withPoints, ringAt, afterPoint, pointAt, endAt, stepAt}
 use Rattle.wkb.proofs.Steps.{popped-at}
 use Rattle.sheet.specs.Reading.{Taken, Reading, Turn, on, over, noted, judged, taken, turn, run, reading, readingOf, nothing}

@@ -8,11 +8,11 @@ use lib.ListN.{length, getD}
 use Rattle.whole.proofs.Tests.{by-cond}
 use Rattle.whole.proofs.Sums.{and-left, and-right}
 use Rattle.wkb.specs.declared.Cursor.{Cursor}
-use Rattle.wkb.specs.declared.Slot.{Slot}
-use Rattle.wkb.specs.declared.Slot.the-variants.{Sheet, Table, Piece, Part, Member}
+use Rattle.kinds.specs.declared.Slot.{Slot}
+use Rattle.kinds.specs.declared.Slot.the-variants.{Sheet, Table, Piece, Part, Member}
 use Rattle.wkb.specs.declared.Step.{Step}
 use Rattle.wkb.specs.declared.Step.the-variants.{Geometry, Ring, Point, End, Refused}
-use Rattle.wkb.specs.Bytes.{remains, wordAt}
+use Rattle.little.specs.Ordered.{remains, wordAt}
 use Rattle.wkb.specs.Steps.{slotOf, complete, renewed, kindFault, countFits, upTo, popped, withRings, withParts, withMembers, withSheet, fewerParts, opened, geometryAt, ringFits, withPoints, ringAt, afterPoint, pointAt, endAt, stepAt}
 use Rattle.sheet.specs.Going.{Sane}
 

@@ -1,14 +1,10 @@
 -- The numbers form of a sheet: the triangle count and six numbers each, the polygon count, then for each its parts, rings and points,
 -- every count before what it counts, rings closed.
 use mathlib.Core.List.{List, [], _∷_, _++_, flatMap}
-use Prim.Native.Nat.{ℕ}
 use lib.IntN.{ℤ, pos}
 use lib.ListN.{length}
-use mir.Syntax.{w32}
-use mir.Val.{ofZ}
 use Rattle.plane.specs.Points.{Point, Triangle}
 use Rattle.plane.specs.Members.{Ring, Polygon, Member}
-use Rattle.wkb.specs.Bytes.{bytes}
 
 -- A sheet in numbers: the triangles of its table and its polygons.
 pub record Sheet : Type 0 where
@@ -36,7 +32,3 @@ memberNumbers = counted partNumbers
 
 abbrev pub numbersOf : Sheet → List ℤ
 numbersOf n = counted triangleNumbers (n .table) ++ counted memberNumbers (n .polygons)
-
--- A number as a little-endian i32.
-abbrev pub i32 : ℤ → List ℕ
-i32 z = bytes 4 (ofZ w32 z)

@@ -10,9 +10,9 @@ ghost use Rattle.coordinate.specs.Coordinate.{coordinateOf};
 ghost use Rattle.wkb.specs.declared.Step.the-variants.{Point};
 ghost use Rattle.sheet.specs.Going.{laid, differs, Shows, Turned, Within, Ready, Leads, Safe, Onward, readOf};
 use coordinate::Coordinate;
+use kinds::Kind;
+use kinds::Slot;
 use wkb::Cursor;
-use wkb::Kind;
-use wkb::Slot;
 use wkb::Step;
 
 // What was read so far, beside the numbers themselves: how many there are, where the number of the open member's polygons stands among
@@ -222,7 +222,15 @@ fn taken(c: Cursor, b: Build, a: Step, numbers: &mut [u32]) -> Turn
     match a {
         Step::Geometry(kind, n, next) => Turn::On(
             next,
-            opening(c.slot(), c, next, kind, n, b, numbers),
+            opening(
+                Slot::standing(c.member, c.parts),
+                c,
+                next,
+                kind,
+                n,
+                b,
+                numbers,
+            ),
         ),
         Step::Ring(n, next) => Turn::On(next, ringing(c, n, b, numbers)),
         Step::Point(x, y, next) => judged(c, next, b, x, y, numbers),
@@ -303,7 +311,7 @@ fn collection(s: &[u8], from: Cursor, had: Build, n: u32, depth: u32, numbers: &
 pub fn read(s: &[u8], numbers: &mut [u32]) -> Ending
     ensures { λ r. ⌜ (r ≡ readOf (readingOf (now (s .entry)))) × (now (numbers .exit) ≡ laid (readingOf (now (s .entry)) .numbers) (now (numbers .entry))) ⌝ }
 {
-    let mut c = Cursor::start();
+    let mut c = Cursor::START;
     let mut b = Build {
         fill: 0,
         mark: 0,

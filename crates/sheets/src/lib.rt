@@ -5,7 +5,6 @@ ghost use Rattle.lent.specs.Answered.{Answered};
 ghost use Rattle.outcomes.specs.Entries.{sheetNumbers, sheetWrite, sheetOwnerSets, sheetOwners, sheetBoundary, sheetListing};
 use owner_sets::Owning;
 use sheet::Ending;
-use writer::Writing;
 
 // The numbers of a sheet: its numbers form as little-endian i32; the item is the number of bytes.
 #[no_mangle]
@@ -20,7 +19,7 @@ pub extern "C" fn sheet_numbers(sheet: &[u8], out: &mut [u8]) -> u64
             if out.len() / 4 < n {
                 return 40;
             }
-            little::write(&numbers, n, out);
+            number_bytes::write(&numbers, n, out);
             4 * (n as u64) * 256
         }
     }
@@ -31,11 +30,7 @@ pub extern "C" fn sheet_numbers(sheet: &[u8], out: &mut [u8]) -> u64
 pub extern "C" fn sheet_write(numbers: &[u8], out: &mut [u8]) -> u64
     ensures { λ r. ⌜ Answered (sheetWrite (now (numbers .entry))) (now (out .entry)) r (now (out .exit)) ⌝ }
 {
-    match writer::write(numbers, out) {
-        Writing::Refused => 42,
-        Writing::Short => 40,
-        Writing::Bytes(n) => n as u64 * 256,
-    }
+    writer::write(numbers, out)
 }
 
 // Room for the numbers of the longest sheet, for the sides of the largest table, and for its owner sets.
@@ -68,7 +63,7 @@ pub extern "C" fn sheet_owner_sets(sheet: &[u8], out: &mut [u8]) -> u64
     let mut sets = set_list();
     match judged::judged(sheet, &mut numbers, &mut opposite, &mut sets) {
         Owning::Refused(code, item) => item as u64 * 256 + code as u64,
-        Owning::Sets(n) => answers::owner_sets(&sets[..n], out),
+        Owning::Sets(n) => set_bytes::owner_sets(&sets[..n], out),
     }
 }
 
@@ -82,7 +77,7 @@ pub extern "C" fn sheet_owners(sheet: &[u8], out: &mut [u8]) -> u64
     let mut sets = set_list();
     match judged::judged(sheet, &mut numbers, &mut opposite, &mut sets) {
         Owning::Refused(code, item) => item as u64 * 256 + code as u64,
-        Owning::Sets(n) => answers::owners(&opposite[..3 * n], &sets[..n], out),
+        Owning::Sets(n) => owner_bytes::owners(&opposite[..3 * n], &sets[..n], out),
     }
 }
 
@@ -103,7 +98,7 @@ pub extern "C" fn sheet_boundary(sheet: &[u8], polygon: u32, out: &mut [u8]) -> 
             if numbers[1 + 6 * n] - 10_000_000 < polygon {
                 return 41;
             }
-            answers::boundary(
+            side_bytes::boundary(
                 &numbers,
                 &opposite[..3 * n],
                 &sets[..n],

@@ -36,9 +36,9 @@ use Rattle.whole.proofs.Tests.{by-equal}
 use Rattle.plane.specs.Corners.{millimetres}
 use Rattle.coordinate.proofs.Doubles.{and-true}
 use Rattle.wkb.specs.declared.Cursor.{Cursor}
-use Rattle.wkb.specs.declared.Slot.the-variants.{Sheet as TheSheet, Table as TheTable}
-use Rattle.wkb.specs.declared.Kind.{Kind}
-use Rattle.wkb.specs.declared.Kind.the-variants.{Collection, Tin}
+use Rattle.kinds.specs.declared.Slot.the-variants.{Sheet as TheSheet, Table as TheTable}
+use Rattle.kinds.specs.declared.Kind.{Kind}
+use Rattle.kinds.specs.declared.Kind.the-variants.{Collection, Tin}
 use Rattle.wkb.specs.Standard.{Geometry, ringed, holding, Geometries, none, _then_, count, encode, encodeAll}
 use Rattle.wkb.specs.Steps.{start, slotOf, complete, kindFault, countFits, popped, withParts, withSheet, opened}
 use Rattle.sheet.specs.Numbers.{Sheet, numbersOf}

@@ -13,7 +13,7 @@ use Rattle.plane.specs.Corners.{millimetres}
 use Rattle.coordinate.specs.Coordinate.{coordinateOf}
 use Rattle.coordinate.specs.declared.Coordinate.{Coordinate}
 use Rattle.coordinate.specs.declared.Coordinate.the-variants.{Whole, Not}
-use Rattle.wkb.specs.declared.Kind.the-variants.{Polygon, MultiPolygon, Collection, Tin, Triangle as Three}
+use Rattle.kinds.specs.declared.Kind.the-variants.{Polygon, MultiPolygon, Collection, Tin, Triangle as Three}
 use Rattle.wkb.specs.Standard.{Pair, Geometry, ringed, holding, Geometries, none, _then_, count}
 use Rattle.sheet.specs.Numbers.{Sheet}
 

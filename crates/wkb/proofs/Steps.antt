@@ -6,8 +6,8 @@ use Prim.Native.Nat.{ℕ, _+_, _-_, _≤_, _<_}
 use native.Mathlib.Omega.{arith}
 use lib.Dec.{leb, ltb, eqb}
 use Rattle.wkb.specs.declared.Cursor.{Cursor}
-use Rattle.wkb.specs.declared.Slot.{Slot}
-use Rattle.wkb.specs.declared.Slot.the-variants.{Sheet, Table, Piece, Part, Member}
+use Rattle.kinds.specs.declared.Slot.{Slot}
+use Rattle.kinds.specs.declared.Slot.the-variants.{Sheet, Table, Piece, Part, Member}
 use Rattle.wkb.specs.Steps.{complete, popped, countFits, ringFits}
 
 -- A test of a difference is the test of the sum.

@@ -1,5 +1,3 @@
--- The binary form of OGC Simple Features as document 01 reads it: numbers, geometry kinds, and the steps of reading.
-pub mod Bytes
-pub mod Kinds
+-- The binary form of OGC Simple Features as document 01 reads it: the steps of reading, and the grammar by itself.
 pub mod Steps
 pub mod Standard

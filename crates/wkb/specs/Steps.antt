@@ -5,11 +5,13 @@ use Prim.Native.Nat.{ℕ, _+_, _-_}
 use lib.Dec.{leb, ltb, eqb}
 use lib.ListN.{length, getD}
 use Rattle.wkb.specs.declared.Cursor.{Cursor}
-use Rattle.wkb.specs.declared.Slot.{Slot}
-use Rattle.wkb.specs.declared.Slot.the-variants.{Sheet, Table, Piece, Part, Member}
+use Rattle.kinds.specs.declared.Slot.{Slot}
+use Rattle.kinds.specs.declared.Slot.the-variants.{Sheet, Table, Piece, Part, Member}
 use Rattle.wkb.specs.declared.Step.{Step}
 use Rattle.wkb.specs.declared.Step.the-variants.{Geometry, Ring, Point, End, Refused}
-use Rattle.wkb.specs.Bytes.{remains, wordAt, doubleAt}
+use Rattle.kinds.specs.Kinds.{slotAt}
+use Rattle.types.specs.Types.{crowdedAt, deepAt, faultAt}
+use Rattle.little.specs.Ordered.{remains, wordAt, doubleAt}
 
 -- The place before the first byte: the sheet's own header is to come.
 abbrev pub start : Cursor
@@ -50,9 +52,7 @@ refusal code c = Refused code (c .member) c
 
 -- Which geometry stands at a place.
 unfoldable pub slotOf : Cursor → Slot
-slotOf c =
-    cond (eqb (c .member) 0) Sheet
-    (cond (eqb (c .member) 1) (cond (ltb 0 (c .parts)) Piece Table) (cond (ltb 0 (c .parts)) Part Member))
+slotOf c = slotAt (c .member) (c .parts)
 
 -- Nothing more is to come of the member.
 unfoldable pub complete : Cursor → Bool
@@ -87,18 +87,14 @@ renewed c =
 -- ---- a geometry's header: byte order, type, count
 -- The 65th polygon under a member: 4. A collection at depth 5: 8.
 unfoldable pub crowded : Cursor → ℕ
-crowded c = cond (ltb (c .polygons) 64) 0 4
+crowded c = crowdedAt (c .polygons)
 
 unfoldable pub deep : Cursor → ℕ
-deep c = cond (eqb (c .fourth) 0) 0 8
+deep c = deepAt (c .fourth)
 
--- What is wrong with a type at a place: 0 where it is allowed. A type that can't stand there, 3, comes before 8 and 4.
+-- What is wrong with a type at a place: 0 where it is allowed.
 unfoldable pub kindFault : Slot → Cursor → ℕ → ℕ
-kindFault Sheet c kind = cond (eqb kind 7) 0 3
-kindFault Table c kind = cond (eqb kind 16) 0 3
-kindFault Piece c kind = cond (eqb kind 17 || eqb kind 3) 0 3
-kindFault Part c kind = cond (eqb kind 3) (crowded c) 3
-kindFault Member c kind = cond (eqb kind 3) (crowded c) (cond (eqb kind 6) 0 (cond (eqb kind 7) (deep c) 3))
+kindFault slot c kind = faultAt slot (crowded c) (deep c) kind
 
 -- The count is within its limits: members of the sheet, triangles, rings of a table piece; and else rings, parts or members.
 unfoldable pub countFits : Slot → ℕ → Bool

@@ -3,44 +3,11 @@ ghost use mathlib.Core.Path.{_≡_};
 ghost use Prim.Native.Nat.{_+_, _-_, _*_, _^_, _≤_, _<_};
 ghost use lib.ListN.{length};
 ghost use lib.Ieee.{binary64, ofBits};
-ghost use Rattle.wkb.specs.Bytes.{numberOf, placeOf, field, remains, wordAt, doubleAt};
-ghost use Rattle.wkb.specs.Kinds.{typeOf};
+ghost use Rattle.little.specs.Ordered.{numberOf, placeOf, field, remains, wordAt, doubleAt};
 ghost use mathlib.Core.Bool.{true};
-ghost use Rattle.wkb.specs.Steps.{start, slotOf, complete, renewed, kindFault, countFits, popped, withRings, withParts, withMembers, withSheet, fewerParts, opened, refusal, geometryAt, ringFits, withPoints, ringAt, afterPoint, pointAt, endAt, stepAt};
-
-// The kinds of geometry; their type numbers are the constants.
-pub enum Kind {
-    Polygon,
-    MultiPolygon,
-    Collection,
-    Tin,
-    Triangle,
-}
-
-impl Kind {
-    pub const POLYGON: u32 = 3;
-
-    pub const MULTI_POLYGON: u32 = 6;
-
-    pub const COLLECTION: u32 = 7;
-
-    pub const TIN: u32 = 16;
-
-    pub const TRIANGLE: u32 = 17;
-
-    // The kind's type number.
-    pub fn number(self) -> u32
-        ensures { λ r. ⌜ r ≡ typeOf self ⌝ }
-    {
-        match self {
-            Kind::Polygon => Kind::POLYGON,
-            Kind::MultiPolygon => Kind::MULTI_POLYGON,
-            Kind::Collection => Kind::COLLECTION,
-            Kind::Tin => Kind::TIN,
-            Kind::Triangle => Kind::TRIANGLE,
-        }
-    }
-}
+ghost use Rattle.wkb.specs.Steps.{complete, renewed, countFits, popped, withRings, withParts, withMembers, withSheet, fewerParts, opened, refusal, geometryAt, ringFits, withPoints, ringAt, afterPoint, pointAt, endAt, stepAt};
+use kinds::Kind;
+use kinds::Slot;
 
 // A reading place: where it stands, the member it names, and what is still to come there.
 pub struct Cursor {
@@ -76,15 +43,6 @@ pub enum Step {
     Point(f64, f64, Cursor),
     End(Cursor),
     Refused(u32, u32, Cursor),
-}
-
-// Which geometry stands at a place: the sheet, the table, a piece of it, a part of a MultiPolygon, or a member at some depth.
-pub enum Slot {
-    Sheet,
-    Table,
-    Piece,
-    Part,
-    Member,
 }
 
 fn wide(b: u8) -> u64
@@ -161,43 +119,21 @@ fn less(n: u32) -> u32
 
 impl Cursor {
     // The place before the first byte.
-    pub fn start() -> Cursor
-        ensures { λ r. ⌜ r ≡ start ⌝ }
-    {
-        Cursor {
-            at: 0,
-            member: 0,
-            members: 0,
-            header: false,
-            second: 0,
-            third: 0,
-            fourth: 0,
-            parts: 0,
-            rings: 0,
-            little: false,
-            points: 0,
-            polygons: 0,
-            total: 0,
-        }
-    }
-
-    pub fn slot(self) -> Slot
-        ensures { λ r. ⌜ r ≡ slotOf self ⌝ }
-    {
-        if self.member == 0 {
-            return Slot::Sheet;
-        }
-        if self.member == 1 {
-            if 0 < self.parts {
-                return Slot::Piece;
-            }
-            return Slot::Table;
-        }
-        if 0 < self.parts {
-            return Slot::Part;
-        }
-        Slot::Member
-    }
+    pub const START: Cursor = Cursor {
+        at: 0,
+        member: 0,
+        members: 0,
+        header: false,
+        second: 0,
+        third: 0,
+        fourth: 0,
+        parts: 0,
+        rings: 0,
+        little: false,
+        points: 0,
+        polygons: 0,
+        total: 0,
+    };
 
     fn is_complete(self) -> bool
         ensures { λ r. ⌜ r ≡ complete self ⌝ }
@@ -241,39 +177,6 @@ impl Cursor {
         self.header = true;
         self.polygons = 0;
         self
-    }
-
-    // What is wrong with a type here: 0 where it is allowed.
-    fn kind_fault(self, slot: Slot, kind: u32) -> u32
-        ensures { λ r. ⌜ r ≡ kindFault slot self kind ⌝ }
-    {
-        let crowded = if self.polygons < 64 { 0 } else { 4 };
-        let deep = if self.fourth == 0 { 0 } else { 8 };
-        match slot {
-            Slot::Sheet => if kind == Kind::COLLECTION { 0 } else { 3 },
-            Slot::Table => if kind == Kind::TIN { 0 } else { 3 },
-            Slot::Piece => {
-                if kind == Kind::TRIANGLE {
-                    0
-                } else if kind == Kind::POLYGON {
-                    0
-                } else {
-                    3
-                }
-            }
-            Slot::Part => if kind == Kind::POLYGON { crowded } else { 3 },
-            Slot::Member => {
-                if kind == Kind::POLYGON {
-                    crowded
-                } else if kind == Kind::MULTI_POLYGON {
-                    0
-                } else if kind == Kind::COLLECTION {
-                    deep
-                } else {
-                    3
-                }
-            }
-        }
     }
 
     fn popped(mut self) -> Cursor
@@ -403,8 +306,8 @@ impl Cursor {
         }
         let little = order == 1;
         let kind = word(s, at + 1, little);
-        let slot = self.slot();
-        let fault = self.kind_fault(slot, kind);
+        let slot = Slot::standing(self.member, self.parts);
+        let fault = types::fault(slot, kind, self.polygons, self.fourth);
         if fault != 0 {
             return self.refused(fault);
         }

@@ -12,7 +12,7 @@ use lib.Dec.{leb}
 use lib.IntN.{ℤ, pos, negsuc}
 use lib.ListN.{length, drop, length-drop}
 use Rattle.coordinate.proofs.Doubles.{and-true}
-use Rattle.wkb.specs.Bytes.{wordAt}
+use Rattle.little.specs.Ordered.{wordAt}
 use Rattle.written.specs.Fits.{fromTo}
 use Rattle.written.specs.Form.{numbersIn}
 use Rattle.writer.specs.declared.Walk.{Walk}

@@ -15,8 +15,8 @@ use Rattle.whole.specs.Sums.{every}
 use Rattle.whole.proofs.Sums.{and-left}
 use Rattle.plane.specs.Points.{Point, Triangle}
 use Rattle.plane.specs.Members.{Ring, Polygon, Member}
-use Rattle.wkb.specs.declared.Kind.the-variants.{Collection, Tin, Triangle as Three}
-use Rattle.wkb.specs.Bytes.{bytesOf}
+use Rattle.kinds.specs.declared.Kind.the-variants.{Collection, Tin, Triangle as Three}
+use Rattle.little.specs.Ordered.{bytesOf}
 use Rattle.wkb.specs.Standard.{Geometry, count, header, encodePoint, encodeRing, encode, encodeAll}
 use Rattle.sheet.specs.Numbers.{Sheet, pointNumbers, triangleNumbers}
 use Rattle.standard.specs.Limits.{ringLengths, lengths, allLengths}

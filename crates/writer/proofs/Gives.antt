@@ -5,7 +5,7 @@ use mathlib.Core.List.{List, _++_}
 use mathlib.Core.Option.{Option, none, some, Option·none-ne-some, Option·some-injective}
 use Prim.Native.Nat.{ℕ, _+_, _%_, _≤_, _<_}
 use native.Mathlib.Omega.{arith}
-use borrow.Author.Tests.{eq-eqb, ne-eqb, le-leb, lt-leb}
+use borrow.Author.Tests.{eq-eqb, ne-eqb}
 use lib.Dec.{T}
 use lib.ListN.{length, drop}
 use lib.Seq.{sets, sets-eq}
@@ -17,11 +17,8 @@ use Rattle.written.specs.Normal.{written}
 use Rattle.written.proofs.Form.{form-is}
 use Rattle.written.proofs.Trip.{form-small}
 use Rattle.writer.specs.declared.Walk.{Walk}
-use Rattle.writer.specs.declared.Writing.{Writing}
-use Rattle.writer.specs.declared.Writing.the-variants.{Refused, Short, Bytes}
 use Rattle.writer.specs.Emit.{emitSheet}
 use Rattle.writer.specs.Walks.{Ended}
-use Rattle.writer.specs.Writings.{writingOf, leftBy}
 use Rattle.writer.proofs.Emits.{writtenFor, emit-sheet}
 use Rattle.writer.proofs.Numbers.{numbers-length}
 
@@ -90,18 +87,8 @@ module _ (s : List ℕ) where
     pub written-again : (before after : List ℕ) (r : Walk) (n : Sheet) → sheetGiven s ≡ some n → Ended (emitSheet (numbersIn s)) before r after → after ≡ sets before 0 (written n)
     written-again before after r n e h = let k = subst (λ x. Ended (writtenFor x) before r after) e (subst (λ x. Ended x before r after) for h) in k .2
 
-  -- ---- what writing comes to
-  abbrev Comes : List ℕ → Writing → List ℕ → Type 0
-  Comes o r a = (r ≡ writingOf (sheetGiven s) o) × (a ≡ leftBy (sheetGiven s) o)
-
-  pub comes-refused : (o : List ℕ) → sheetGiven s ≡ none → Comes o Refused o
-  comes-refused o e = rw e (refl, refl)
-
-  pub comes-short : (o : List ℕ) (n : Sheet) → sheetGiven s ≡ some n → length o < length (written n) → Comes o Short o
-  comes-short o n e h = rw e (rw (lt-leb (length (written n)) (length o) h) (refl, refl))
-
-  pub comes-bytes : (o a : List ℕ) (n : Sheet) (k : ℕ) → sheetGiven s ≡ some n → k ≡ length (written n) → length (written n) ≤ length o → a ≡ sets o 0 (written n) → Comes o (Bytes k) a
-  comes-bytes o a n k e q h f =
-      let z : 0 + length (written n) ≡ length (written n) = omega arith in
-      let l = sets-eq (written n) o 0 (omega arith) in
-      rw e (rw (le-leb (length (written n)) (length o) h) (ap Bytes q, f ∙ l ∙ ap (λ j. written n ++ drop j o) z))
+-- Bytes stored from the first place on.
+pub stored : (o a : List ℕ) (l : List ℕ) → length l ≤ length o → a ≡ sets o 0 l → a ≡ l ++ drop (length l) o
+stored o a l h f =
+    let z : 0 + length l ≡ length l = omega arith in
+    f ∙ sets-eq l o 0 (omega arith) ∙ ap (λ j. l ++ drop j o) z

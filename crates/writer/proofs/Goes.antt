@@ -12,7 +12,7 @@ use lib.Seq.{sets, length-sets}
 use Rattle.writer.specs.declared.Walk.{Walk}
 use Rattle.writer.specs.Emit.{Emitted, joined, emitMany}
 use Rattle.writer.specs.Walks.{Fair, Gone, Went}
-use Rattle.writer.proofs.Numbers.{sets-++}
+use Rattle.little.proofs.Stored.{sets-++}
 
 -- What went well emitted something, what did not nothing.
 pub record Well (x : Option Emitted) (nums : List ℤ) (w : Walk) (o : List ℕ) (v : Walk) (p : List ℕ) : Type 0 where

@@ -13,12 +13,12 @@ use lib.IntN.{ℤ, pos, negsuc}
 use lib.ListN.{length, drop, length-append, drop-of-length-le}
 use lib.Seq.{sets}
 use Rattle.whole.proofs.Tests.{by-cond}
-use Rattle.wkb.specs.declared.Kind.{Kind}
-use Rattle.wkb.specs.declared.Kind.the-variants.{Polygon, MultiPolygon}
-use Rattle.wkb.specs.Kinds.{typeOf}
-use Rattle.wkb.specs.Bytes.{bytesOf, ordered, wordAt}
+use Rattle.kinds.specs.declared.Kind.{Kind}
+use Rattle.kinds.specs.declared.Kind.the-variants.{Polygon, MultiPolygon}
+use Rattle.kinds.specs.Kinds.{typeOf}
+use Rattle.little.specs.Ordered.{bytesOf, ordered, wordAt}
 use Rattle.wkb.specs.Standard.{header}
-use Rattle.wkb.proofs.Bytes.{length-bytes}
+use Rattle.little.proofs.Ordered.{length-bytes}
 use Rattle.coordinate.proofs.Doubles.{and-true}
 use Rattle.written.specs.Fits.{fromTo}
 use Rattle.written.specs.Form.{numbersIn}

@@ -1,8 +1,8 @@
--- The laws of the numbers that bytes are: how many there are and the one at a place, by induction on the bytes, four at a step; the number that
--- bits are, by its sign; and bytes written behind bytes written. Assumes nothing.
+-- The laws of the numbers that bytes are: how many there are and the one at a place, by induction on the bytes, four at a step; and the number
+-- that bits are, by its sign. Assumes nothing.
 use mathlib.Core.Path.{_≡_, refl, sym, ap, ap₂, _∙_}
 use mathlib.Core.Bool.{Bool, true, false}
-use mathlib.Core.List.{List, [], _∷_, _++_}
+use mathlib.Core.List.{List, [], _∷_}
 use mir.Syntax.{w32}
 use mir.Val.{toZ, sel}
 use Prim.Native.Nat.{ℕ, zero, suc, _+_, _-_, _*_, _/_, _≤_, _<_}
@@ -11,10 +11,10 @@ use native.Mathlib.Omega.{arith}
 use borrow.Author.Tests.{ltb-true, ltb-false, eqb-true, eqb-false, lt-ltb, le-ltb, le-leb, lt-leb, eq-eqb, ne-eqb}
 use lib.Dec.{leb, ltb, eqb}
 use lib.IntN.{ℤ, pos, negsuc}
-use lib.ListN.{length, drop, take, getD, set}
-use lib.Seq.{sets, drop-cons, getD-drop}
+use lib.ListN.{length, drop, take, getD}
+use lib.Seq.{drop-cons, getD-drop}
 use Rattle.whole.specs.Numbers.{eqZ}
-use Rattle.wkb.specs.Bytes.{number, wordAt, ordered}
+use Rattle.little.specs.Ordered.{number, wordAt, ordered}
 use Rattle.written.specs.Fits.{inRange}
 use Rattle.written.specs.Form.{numbersIn}
 
@@ -97,9 +97,3 @@ in-range-high b h g =
     (λ k. ap inRange (signed-high b k) ∙ by-order b 4_284_967_296
     (λ m. lt-leb (suc (4_294_967_296 - suc b)) 10_000_000 (omega arith) ∙ sym (lt-leb 4_284_967_296 b m))
     (λ m. le-leb (suc (4_294_967_296 - suc b)) 10_000_000 (omega arith) ∙ sym (le-leb 4_284_967_296 b m)))
-
--- ---- bytes written behind bytes written
-pub sets-++ : (o l m : List ℕ) (k : ℕ) → sets (sets o k l) (k + length l) m ≡ sets o k (l ++ m)
-sets-++ o [] m k = ap (λ (j : ℕ). sets o j m) (omega arith)
-sets-++ o (b ∷ l) m k =
-    ap (λ (j : ℕ). sets (sets (set o k b) (suc k) l) j m) (let e : k + suc (length l) ≡ suc k + length l = omega arith in e) ∙ sets-++ (set o k b) l m (suc k)

@@ -12,8 +12,8 @@ use native.Mathlib.Omega.{arith}
 use lib.IntN.{ℤ, pos}
 use lib.ListN.{length, drop, getD, length-append, length-drop}
 use lib.Seq.{sets, length-sets}
-use Rattle.wkb.specs.declared.Kind.the-variants.{Triangle}
-use Rattle.wkb.specs.Bytes.{bytes, bytesOf, ordered, wordAt}
+use Rattle.kinds.specs.declared.Kind.the-variants.{Triangle}
+use Rattle.little.specs.Ordered.{bytes, bytesOf, ordered, wordAt}
 use Rattle.wkb.specs.Standard.{header, encodePoint}
 use Rattle.written.specs.Fits.{inRange}
 use Rattle.written.specs.Form.{numbersIn}
@@ -22,7 +22,8 @@ use Rattle.writer.specs.declared.Walk.{Walk}
 use Rattle.writer.specs.Emit.{Emitted, joined, followed, again, emitPoint, emitMany, emit, emitPiece}
 use Rattle.writer.specs.Walks.{Fair, Went}
 use Rattle.writer.proofs.Goes.{well, ill, went-fair, went-length}
-use Rattle.writer.proofs.Numbers.{numbers-length, number-behind, sets-++}
+use Rattle.little.proofs.Stored.{sets-++}
+use Rattle.writer.proofs.Numbers.{numbers-length, number-behind}
 
 -- ---- what n points take
 abbrev Took : ℕ → List ℤ → Option Emitted → Type 0

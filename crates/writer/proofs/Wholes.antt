@@ -10,7 +10,7 @@ use lib.Dec.{leb}
 use lib.IntN.{ℤ, pos}
 use lib.ListN.{length, drop, length-append, length-drop}
 use lib.Seq.{sets}
-use Rattle.wkb.specs.declared.Kind.the-variants.{Collection, Tin}
+use Rattle.kinds.specs.declared.Kind.the-variants.{Collection, Tin}
 use Rattle.wkb.specs.Standard.{header}
 use Rattle.written.specs.Fits.{fromTo}
 use Rattle.writer.specs.declared.Walk.{Walk}
@@ -18,7 +18,7 @@ use Rattle.writer.specs.Emit.{Emitted, joined, followed, emitMany, emit,
 use Rattle.writer.specs.Walks.{beginning, Fair, Gone, Went, Ended}
 use Rattle.writer.proofs.Goes.{well, ill, went-length, went-joined}
 use Rattle.writer.proofs.Levels.{header-long}
-use Rattle.writer.proofs.Numbers.{sets-++}
+use Rattle.little.proofs.Stored.{sets-++}
 
 -- The place behind the two headers, and the place behind the table with no points counted.
 abbrev pub tablePlace : Walk

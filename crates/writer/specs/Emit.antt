@@ -8,8 +8,8 @@ use lib.Dec.{leb, eqb}
 use lib.IntN.{ℤ, pos, negsuc}
 use lib.ListN.{length, getD}
 use Rattle.whole.specs.Numbers.{eqZ}
-use Rattle.wkb.specs.declared.Kind.the-variants.{Polygon, MultiPolygon, Collection, Tin, Triangle}
-use Rattle.wkb.specs.Bytes.{bytesOf}
+use Rattle.kinds.specs.declared.Kind.the-variants.{Polygon, MultiPolygon, Collection, Tin, Triangle}
+use Rattle.little.specs.Ordered.{bytesOf}
 use Rattle.wkb.specs.Standard.{header, encodePoint}
 use Rattle.written.specs.Fits.{fromTo, inRange}
 use Rattle.written.specs.Normal.{patternOf}

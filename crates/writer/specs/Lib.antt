@@ -1,4 +1,3 @@
 -- The writer's walk over the numbers: what it writes for them, level by level.
 pub mod Emit
 pub mod Walks
-pub mod Writings

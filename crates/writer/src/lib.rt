@@ -8,16 +8,16 @@ ghost use lib.Seq.{sets};
 ghost use mir.Syntax.{w32};
 ghost use mir.Val.{toZ};
 ghost use Rattle.whole.specs.Numbers.{Within};
-ghost use Rattle.wkb.specs.Bytes.{bytes, wordAt};
+ghost use Rattle.little.specs.Ordered.{wordAt};
 ghost use Rattle.wkb.specs.Standard.{header as headerOf};
 ghost use Rattle.written.specs.Fits.{inRange, fromTo};
 ghost use Rattle.written.specs.Form.{numbersIn};
 ghost use Rattle.written.specs.Normal.{patternOf};
 ghost use Rattle.writer.specs.Emit.{low, high, heading, closed, closes as closesAt, emitPoint, emitMany, emit, emitPiece, followed, polygonCount, emitTable, emitSheet};
 ghost use Rattle.writer.specs.Walks.{beginning, headed, Fair, Went, Ended};
-ghost use Rattle.writer.specs.Writings.{writingOf, leftBy};
-ghost use Rattle.written.specs.Given.{sheetGiven};
-use wkb::Kind;
+ghost use Rattle.written.specs.Given.{sheetGiven, writeOutcome};
+ghost use Rattle.lent.specs.Answered.{Answered};
+use kinds::Kind;
 
 // Where a walk over the numbers stands: the next number, the next lent byte, the points so far, and that nothing was wrong.
 pub struct Walk {
@@ -70,30 +70,14 @@ fn pattern(b: u32) -> u64
     f64::to_bits(signed(b) as f64)
 }
 
-// Writes the n low bytes of a number, the least significant first, wherever there is room.
-fn put(out: &mut [u8], to: usize, value: u64, n: usize)
-    requires { ⌜ (to ≤ 1000000) × (n ≤ 8) ⌝ }
-    ensures { λ _. ⌜ now (out .exit) ≡ sets (now (out .entry)) to (bytes n value) ⌝ }
-{
-    let mut v = value;
-    let mut i: usize = 0;
-    while i < n {
-        if to + i < out.len() {
-            out[to + i] = (v % 256) as u8;
-        }
-        v = v / 256;
-        i += 1;
-    }
-}
-
 // Writes a geometry's header, little-endian.
 fn header(out: &mut [u8], to: usize, kind: Kind, n: u32)
     requires { ⌜ to ≤ 500000 ⌝ }
     ensures { λ _. ⌜ now (out .exit) ≡ sets (now (out .entry)) to (headerOf true kind n) ⌝ }
 {
-    put(out, to, 1, 1);
-    put(out, to + 1, kind.number() as u64, 4);
-    put(out, to + 5, n as u64, 4);
+    little::put(out, to, 1, 1);
+    little::put(out, to + 1, kind.number() as u64, 4);
+    little::put(out, to + 5, n as u64, 4);
 }
 
 // The walk with something wrong.
@@ -124,8 +108,8 @@ fn point(numbers: &[u8], out: &mut [u8], w: Walk) -> Walk
     if !in_range(y) {
         return wrong(w);
     }
-    put(out, w.to, pattern(x), 8);
-    put(out, w.to + 8, pattern(y), 8);
+    little::put(out, w.to, pattern(x), 8);
+    little::put(out, w.to + 8, pattern(y), 8);
     Walk {
         at: w.at + 2,
         to: w.to + 16,
@@ -180,7 +164,7 @@ fn head(out: &mut [u8], w: Walk, level: u32, n: u32) -> Walk
 {
     let mut to = w.to;
     if level == 1 {
-        put(out, to, n as u64, 4);
+        little::put(out, to, n as u64, 4);
         to += 4;
     }
     if level == 2 {
@@ -247,7 +231,7 @@ fn piece(numbers: &[u8], out: &mut [u8], w: Walk) -> Walk
         return wrong(w);
     }
     header(out, w.to, Kind::Triangle, 1);
-    put(out, w.to + 9, 4, 4);
+    little::put(out, w.to + 9, 4, 4);
     let v = things(
         numbers,
         out,
@@ -263,8 +247,8 @@ fn piece(numbers: &[u8], out: &mut [u8], w: Walk) -> Walk
     if !v.good {
         return v;
     }
-    put(out, v.to, pattern(bits(numbers, w.at)), 8);
-    put(out, v.to + 8, pattern(bits(numbers, w.at + 1)), 8);
+    little::put(out, v.to, pattern(bits(numbers, w.at)), 8);
+    little::put(out, v.to + 8, pattern(bits(numbers, w.at + 1)), 8);
     Walk {
         at: v.at,
         to: v.to + 16,
@@ -367,31 +351,24 @@ fn sheet(numbers: &[u8], out: &mut [u8]) -> Walk
     u
 }
 
-// How writing ended: the numbers give no sheet, its bytes don't fit, or so many bytes are written.
-pub enum Writing {
-    Refused,
-    Short,
-    Bytes(usize),
-}
-
-// Writes the normal bytes of the sheet that the numbers give; all of it is walked over first, with a byte of its own.
-pub fn write(numbers: &[u8], out: &mut [u8]) -> Writing
-    ensures { λ r. ⌜ (r ≡ writingOf (sheetGiven (now (numbers .entry))) (now (out .entry))) × (now (out .exit) ≡ leftBy (sheetGiven (now (numbers .entry))) (now (out .entry))) ⌝ }
+// Writes the normal bytes of the sheet that the numbers give; all of it is walked over first, with a byte of its own. 42 where they give none.
+pub fn write(numbers: &[u8], out: &mut [u8]) -> u64
+    ensures { λ r. ⌜ Answered (writeOutcome (sheetGiven (now (numbers .entry)))) (now (out .entry)) r (now (out .exit)) ⌝ }
 {
     if numbers.len() % 4 != 0 {
-        return Writing::Refused;
+        return 42;
     }
     if numbers.len() > 65_800 {
-        return Writing::Refused;
+        return 42;
     }
     let mut room = [0u8; 1];
     let seen = sheet(numbers, &mut room);
     if !seen.good {
-        return Writing::Refused;
+        return 42;
     }
     if seen.to > out.len() {
-        return Writing::Short;
+        return 40;
     }
     sheet(numbers, out);
-    Writing::Bytes(seen.to)
+    seen.to as u64 * 256
 }

@@ -6,11 +6,11 @@ use lib.Dec.{lit<}
 use lib.ListN.{length}
 use Rattle.whole.specs.Sums.{All}
 use Rattle.whole.proofs.Sums.{all-++, all-of, all-flatMap}
-use Rattle.wkb.specs.declared.Kind.{Kind}
-use Rattle.wkb.specs.Bytes.{bytes, bytesOf}
-use Rattle.wkb.specs.Kinds.{typeOf}
+use Rattle.kinds.specs.declared.Kind.{Kind}
+use Rattle.little.specs.Ordered.{bytes, bytesOf}
+use Rattle.kinds.specs.Kinds.{typeOf}
 use Rattle.wkb.specs.Standard.{Pair, Geometry, ringed, holding, Geometries, none, _then_, count, order, header, encodePoint, encodeRing, encode, encodeAll}
-use Rattle.wkb.proofs.Bytes.{ordered-all, bytes-below}
+use Rattle.little.proofs.Ordered.{ordered-all, bytes-below}
 
 abbrev Byte : ℕ → Type 0
 Byte b = b < 256

@@ -2,7 +2,7 @@
 use mathlib.Core.Path.{_≡_, refl}
 use mathlib.Core.List.{map, flatMap}
 use lib.Ieee.{ofInt, toBits}
-use Rattle.wkb.specs.Bytes.{bytes, ordered}
+use Rattle.little.specs.Ordered.{bytes, ordered}
 use Rattle.wkb.specs.Standard.{header, encodePoint, encodeRing, encode, encodeAll}
 use Rattle.written.specs.Form.{manyIn}
 use Rattle.written.specs.Normal.{patternOf, normal}

@@ -7,4 +7,5 @@ pub mod Sized
 mod Read
 pub mod Trip
 pub mod Held
+pub mod Outcomes
 pub mod Examples

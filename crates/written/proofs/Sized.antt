@@ -13,12 +13,12 @@ use Rattle.whole.specs.Sums.{All}
 use Rattle.whole.proofs.Sums.{all-of, every-all, all-image}
 use Rattle.plane.specs.Points.{Triangle}
 use Rattle.plane.specs.Members.{Ring, Polygon, Member}
-use Rattle.wkb.specs.declared.Kind.{Kind}
-use Rattle.wkb.specs.declared.Kind.the-variants.{Collection, Tin}
-use Rattle.wkb.specs.Bytes.{bytesOf}
-use Rattle.wkb.specs.Kinds.{typeOf}
+use Rattle.kinds.specs.declared.Kind.{Kind}
+use Rattle.kinds.specs.declared.Kind.the-variants.{Collection, Tin}
+use Rattle.little.specs.Ordered.{bytesOf}
+use Rattle.kinds.specs.Kinds.{typeOf}
 use Rattle.wkb.specs.Standard.{Pair, Geometry, ringed, holding, Geometries, _then_, count, header, encodePoint, encodeRing, encode, encodeAll}
-use Rattle.wkb.proofs.Bytes.{length-bytesOf}
+use Rattle.little.proofs.Ordered.{length-bytesOf}
 use Rattle.sheet.specs.Numbers.{Sheet}
 use Rattle.written.specs.Fits.{ringFits, partFits, memberFits, sheetFits}
 use Rattle.written.specs.Form.{sheetIn, numbersIn}

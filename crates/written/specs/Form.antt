@@ -7,7 +7,7 @@ use Prim.Native.Nat.{ℕ, zero, suc}
 use lib.IntN.{ℤ, pos, negsuc}
 use Rattle.plane.specs.Points.{Point, Triangle}
 use Rattle.plane.specs.Members.{Ring, Polygon, Member}
-use Rattle.wkb.specs.Bytes.{number}
+use Rattle.little.specs.Ordered.{number}
 use Rattle.sheet.specs.Numbers.{Sheet}
 
 -- What stands at the front of numbers, with the numbers behind it; nothing where they are too few, or a count is negative.

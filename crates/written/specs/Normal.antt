@@ -7,7 +7,7 @@ use lib.Ieee.{binary64, ofInt, toBits}
 use lib.IntN.{ℤ}
 use Rattle.plane.specs.Points.{Point, Triangle}
 use Rattle.plane.specs.Members.{Polygon, Member}
-use Rattle.wkb.specs.declared.Kind.the-variants.{Polygon as One, MultiPolygon, Collection, Tin, Triangle as Three}
+use Rattle.kinds.specs.declared.Kind.the-variants.{Polygon as One, MultiPolygon, Collection, Tin, Triangle as Three}
 use Rattle.wkb.specs.Standard.{Pair, Geometry, ringed, holding, Geometries, none, _then_, encode}
 use Rattle.sheet.specs.Numbers.{Sheet}
 

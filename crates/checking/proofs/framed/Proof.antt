@@ -1,114 +1,52 @@
--- `checking::framed` meets its contract: a stray piece leaves the boundaries apart; else the last comparison tells whether the table has
--- the boundary of the frame's pieces. Assumes nothing.
-use mathlib.Core.Path.{refl, sym, _∙_}
+-- `checking::framed` meets its contract: counts and labels stand in work lists of the library's own, as long as the table asks. Assumes nothing.
+use mathlib.Core.Path.{_≡_, sym, _∙_}
+use mathlib.Core.Bool.{true}
+use Prim.Native.Nat.{_/_}
 use native.Mathlib.Omega.{arith}
 use denote.Ref.{now}
 use lib.ListN.{length}
-use Rattle.plane.specs.Boundaries.{sidesOf}
-use Rattle.plane.specs.Members.{edges}
-use Rattle.table.specs.Table.{corners, frame}
+use lib.Seq.{length-take-le}
+use Rattle.whole.proofs.Sums.{all-take}
 use Rattle.table.specs.Sides.{trianglesOf}
-use Rattle.table.proofs.Shares.{length-triangles, length-sides}
-use Rattle.counting.specs.Counting.{piecesOf}
-use Rattle.owners.proofs.Judged.{sided, tallied-room}
-use Rattle.counting.proofs.Counted.{tally-no, tally-yes}
-use Rattle.checking.proofs.Framing.{four-edged, stray-differs, shares-tell}
+use Rattle.table.proofs.Shares.{length-triangles}
 use borrow.Author.Needs.{needs}
 use Rattle.checking.proofs.framed.Statement.{statement}
 use Rattle.checking.proofs.framed.Tie as tie
 
-slice-aggregate-frame-edges : tie.Need-slice-aggregate-frame-edges
-slice-aggregate-frame-edges c = search needs
+all-labels-requires : tie.Need-all-labels-requires
+all-labels-requires c κs = search needs
 
-slice-aggregate-frame-edges-2 : tie.Need-slice-aggregate-frame-edges-2
-slice-aggregate-frame-edges-2 c = search needs
+array-borrow-prefix-counts : tie.Need-array-borrow-prefix-counts
+array-borrow-prefix-counts c = omega (arith, c .before .before .before .before .before .pre .3)
 
-frame-edges-requires : tie.Need-frame-edges-requires
-frame-edges-requires c κs =
-    let p = c .before .before .before .before .before .before .before .before .pre in
+slice-aggregate-compared : tie.Need-slice-aggregate-compared
+slice-aggregate-compared c = sym (length-take-le _ _ (omega (arith, c .before .before .before .before .before .before .pre .3)))
+
+array-share-prefix-labels : tie.Need-array-share-prefix-labels
+array-share-prefix-labels c = omega (arith, c .before .before .before .before .before .before .pre .3, c .before .all-labels .ensures .0)
+
+slice-aggregate-compared-2 : tie.Need-slice-aggregate-compared-2
+slice-aggregate-compared-2 c = sym (length-take-le _ _ (omega (arith, c .before .before .before .before .before .before .before .pre .3, c .before .before .all-labels .ensures .0)))
+
+compared-requires : tie.Need-compared-requires
+compared-requires c κs =
+    let p = c .before .before .before .before .before .before .before .pre in
     let w = p .0 in
-    (p .1, (w .n, w .three, omega (arith, p .2, length-triangles (now (c .before .before .before .before .before .before .before .before .args .keys)) (w .n) (w .three))), refl, refl)
-
-slice-aggregate-tally : tie.Need-slice-aggregate-tally
-slice-aggregate-tally c = search needs
-
-slice-aggregate-tally-2 : tie.Need-slice-aggregate-tally-2
-slice-aggregate-tally-2 c = search needs
-
-tally-requires : tie.Need-tally-requires
-tally-requires c κs =
-    let a = c .before .before .before .before .before .before .before .before .before .before .before .before .before .before .args in
-    let keys = now (a .keys) in
-    let p = c .before .before .before .before .before .before .before .before .before .before .before .before .before .before .pre in
-    let w = p .0 in
-    let f = c .before .before .before .before .before .frame-edges .ensures in
-    let from = c .before .before .before .before .before .frame-edges .last .1 .0 in
-    let to = c .before .before .before .before .before .frame-edges .last .1 .1 .0 in
-    ((sidesOf (trianglesOf keys), w .looked, p .3 ∙ sym (length-sides keys (w .n) (w .three))), four-edged from to (f .1) (f .2) (f .3) (f .4))
-
-same-length : tie.Need-same-length
-same-length c = search needs
+    let k = now (c .before .before .before .before .before .before .before .args .keys) in
+    let t : length k / 3 ≡ length (trianglesOf k) = omega (arith, w .three, length-triangles k (w .n) (w .three)) in
+    (w, p .1, p .2, length-take-le _ _ (omega (arith, p .3)), length-take-le _ _ (omega (arith, p .3, c .before .before .all-labels .ensures .0)) ∙ t, all-take (λ b. b ≡ true) (length k / 3) (c .before .before .all-labels .result) (c .before .before .all-labels .ensures .1))
 
 returns : tie.Need-returns
-returns c =
-    let a = c .before .before .before .before .before .before .before .before .before .before .before .before .before .before .before .before .before .before .args in
-    let keys = now (a .keys) in
-    let p = c .before .before .before .before .before .before .before .before .before .before .before .before .before .before .before .before .before .before .pre in
-    let w = p .0 in
-    let f = c .before .before .before .before .before .before .before .before .before .frame-edges .ensures in
-    let from = c .before .before .before .before .before .before .before .before .before .frame-edges .last .1 .0 in
-    let to = c .before .before .before .before .before .before .before .before .before .frame-edges .last .1 .1 .0 in
-    let pieces = piecesOf (now (a .ordered)) from to in
-    stray-differs keys (now (a .ordered)) (now (a .index)) (now (a .opposite)) w (now (a .labels)) (p .4) (p .5) from to (edges (frame (corners (trianglesOf keys)))) (f .0)
-    (tally-no (sidesOf (trianglesOf keys)) pieces (c .before .before .before .tally .last .1 .1 .1 .1 .0) (c .before .before .before .tally .result) (c .if1 .taken)
-    (c .before .before .before .tally .ensures (sidesOf (trianglesOf keys)) (w .looked) (p .3 ∙ sym (length-sides keys (w .n) (w .three)))))
-
-agree-requires : tie.Need-agree-requires
-agree-requires c κs =
-    let a = c .before .before .before .before .before .before .before .before .before .before .before .before .before .before .before .before .before .before .before .args in
-    let keys = now (a .keys) in
-    let p = c .before .before .before .before .before .before .before .before .before .before .before .before .before .before .before .before .before .before .before .pre in
-    let w = p .0 in
-    let f = c .before .before .before .before .before .before .before .before .before .before .frame-edges .ensures in
-    let from = c .before .before .before .before .before .before .before .before .before .before .frame-edges .last .1 .0 in
-    let to = c .before .before .before .before .before .before .before .before .before .before .frame-edges .last .1 .1 .0 in
-    let pieces = piecesOf (now (a .ordered)) from to in
-    let counts = c .before .before .before .before .tally .last .1 .1 .1 .1 .0 in
-    let t = tally-yes (sidesOf (trianglesOf keys)) pieces counts (c .before .before .before .before .tally .result) (c .before .if1 .left)
-    (c .before .before .before .before .tally .ensures (sidesOf (trianglesOf keys)) (w .looked) (p .3 ∙ sym (length-sides keys (w .n) (w .three)))) in
-    sided keys (now (a .ordered)) (now (a .index)) (now (a .opposite)) w pieces counts (length (now (a .labels))) (c .before .before .before .before .tally .kept .1 .1 .1 .1 .0 ∙ p .3) (p .4)
-    (tallied-room (sidesOf (trianglesOf keys)) (now (a .ordered)) from to counts (four-edged from to (f .1) (f .2) (f .3) (f .4)) (t .0))
-
-same-length-2 : tie.Need-same-length-2
-same-length-2 c = search needs
-
-returns-2 : tie.Need-returns-2
-returns-2 c =
-    let a = c .before .before .before .before .before .before .before .before .before .before .before .before .before .before .before .before .before .before .before .before .args in
-    let keys = now (a .keys) in
-    let p = c .before .before .before .before .before .before .before .before .before .before .before .before .before .before .before .before .before .before .before .before .pre in
-    let w = p .0 in
-    let f = c .before .before .before .before .before .before .before .before .before .before .before .frame-edges .ensures in
-    let from = c .before .before .before .before .before .before .before .before .before .before .before .frame-edges .last .1 .0 in
-    let to = c .before .before .before .before .before .before .before .before .before .before .before .frame-edges .last .1 .1 .0 in
-    let pieces = piecesOf (now (a .ordered)) from to in
-    let counts = c .before .before .before .before .before .tally .last .1 .1 .1 .1 .0 in
-    let t = tally-yes (sidesOf (trianglesOf keys)) pieces counts (c .before .before .before .before .before .tally .result) (c .before .before .if1 .left)
-    (c .before .before .before .before .before .tally .ensures (sidesOf (trianglesOf keys)) (w .looked) (p .3 ∙ sym (length-sides keys (w .n) (w .three)))) in
-    shares-tell keys (now (a .ordered)) (now (a .index)) (now (a .opposite)) w (now (a .labels)) (p .4) (p .5) from to (edges (frame (corners (trianglesOf keys)))) (f .0) counts (t .0) (t .1) (c .agree .result) (c .agree .ensures)
+returns c = search needs
 
 pub framed-spec : {M : Type 1} → statement M
 framed-spec =
     tie.close
     (tie.spec
-    slice-aggregate-frame-edges
-    slice-aggregate-frame-edges-2
-    frame-edges-requires
-    slice-aggregate-tally
-    slice-aggregate-tally-2
-    tally-requires
-    same-length
-    returns
-    agree-requires
-    same-length-2
-    returns-2)
+    all-labels-requires
+    array-borrow-prefix-counts
+    slice-aggregate-compared
+    array-share-prefix-labels
+    slice-aggregate-compared-2
+    compared-requires
+    returns)

@@ -7,7 +7,7 @@ use borrow.Author.Needs.{needs}
 use denote.Ref.{now}
 use lib.ListN.{length, getD, take, drop, length-append}
 use lib.Seq.{length-take-le, take-at}
-use Rattle.printing.specs.Printing.{Figures, headBy, afterBy}
+use Rattle.printing.specs.Printing.{Figures, linesBy}
 use Rattle.listing.proofs.Sheet.{sets-many, few, few-polygons, pairs, polygons-at, figures, listing-is}
 use Rattle.listing.proofs.put_judged.Statement.{statement}
 use Rattle.listing.proofs.put_judged.Tie as tie
@@ -56,59 +56,39 @@ repair-requires c κs = let p = c .before .before .before .before .before .befor
 array-share-prefix-owners : tie.Need-array-share-prefix-owners
 array-share-prefix-owners c = omega (arith, length-append (c .before .before .repair .last .1 .1 .0) (drop (length (now (c .before .before .before .before .before .before .before .before .before .before .before .before .before .before .args .sets))) (c .before .before .before .before .before .before .before .owner-list .result)), c .before .before .repair .kept .1 .1 .0 ∙ length-take-le (length (now (c .before .before .before .before .before .before .before .before .before .before .before .before .before .before .args .sets))) (c .before .before .before .before .before .before .before .owner-list .result) (omega (arith, few (c .before .before .before .before .before .before .before .before .before .before .before .before .before .before .pre .0 .1), c .before .before .before .before .before .before .before .owner-list .ensures)))
 
-slice-aggregate-put-head : tie.Need-slice-aggregate-put-head
-slice-aggregate-put-head c = sym (length-take-le _ _ (omega (arith, length-append (c .before .before .before .repair .last .1 .1 .0) (drop (length (now (c .before .before .before .before .before .before .before .before .before .before .before .before .before .before .before .args .sets))) (c .before .before .before .before .before .before .before .before .owner-list .result)), c .before .before .before .repair .kept .1 .1 .0 ∙ length-take-le (length (now (c .before .before .before .before .before .before .before .before .before .before .before .before .before .before .before .args .sets))) (c .before .before .before .before .before .before .before .before .owner-list .result) (omega (arith, few (c .before .before .before .before .before .before .before .before .before .before .before .before .before .before .before .pre .0 .1), c .before .before .before .before .before .before .before .before .owner-list .ensures)))))
+slice-aggregate-put-lines : tie.Need-slice-aggregate-put-lines
+slice-aggregate-put-lines c = sym (length-take-le _ _ (omega (arith, length-append (c .before .before .before .repair .last .1 .1 .0) (drop (length (now (c .before .before .before .before .before .before .before .before .before .before .before .before .before .before .before .args .sets))) (c .before .before .before .before .before .before .before .before .owner-list .result)), c .before .before .before .repair .kept .1 .1 .0 ∙ length-take-le (length (now (c .before .before .before .before .before .before .before .before .before .before .before .before .before .before .before .args .sets))) (c .before .before .before .before .before .before .before .before .owner-list .result) (omega (arith, few (c .before .before .before .before .before .before .before .before .before .before .before .before .before .before .before .pre .0 .1), c .before .before .before .before .before .before .before .before .owner-list .ensures)))))
 
 array-share-prefix-areas : tie.Need-array-share-prefix-areas
 array-share-prefix-areas c = omega (arith, length-append (c .before .before .before .before .before .before .lay-areas .last .1 .0) (drop (length (now (c .before .before .before .before .before .before .before .before .before .before .before .before .before .before .before .args .sets))) (c .before .before .before .before .before .before .before .before .before .area-list .result)), c .before .before .before .before .before .before .lay-areas .kept .1 .0 ∙ length-take-le (length (now (c .before .before .before .before .before .before .before .before .before .before .before .before .before .before .before .args .sets))) (c .before .before .before .before .before .before .before .before .before .area-list .result) (omega (arith, few (c .before .before .before .before .before .before .before .before .before .before .before .before .before .before .before .pre .0 .1), c .before .before .before .before .before .before .before .before .before .area-list .ensures)))
 
-slice-aggregate-put-head-2 : tie.Need-slice-aggregate-put-head-2
-slice-aggregate-put-head-2 c = sym (length-take-le _ _ (omega (arith, length-append (c .before .before .before .before .before .before .before .lay-areas .last .1 .0) (drop (length (now (c .before .before .before .before .before .before .before .before .before .before .before .before .before .before .before .before .args .sets))) (c .before .before .before .before .before .before .before .before .before .before .area-list .result)), c .before .before .before .before .before .before .before .lay-areas .kept .1 .0 ∙ length-take-le (length (now (c .before .before .before .before .before .before .before .before .before .before .before .before .before .before .before .before .args .sets))) (c .before .before .before .before .before .before .before .before .before .before .area-list .result) (omega (arith, few (c .before .before .before .before .before .before .before .before .before .before .before .before .before .before .before .before .pre .0 .1), c .before .before .before .before .before .before .before .before .before .before .area-list .ensures)))))
+slice-aggregate-put-lines-2 : tie.Need-slice-aggregate-put-lines-2
+slice-aggregate-put-lines-2 c = sym (length-take-le _ _ (omega (arith, length-append (c .before .before .before .before .before .before .before .lay-areas .last .1 .0) (drop (length (now (c .before .before .before .before .before .before .before .before .before .before .before .before .before .before .before .before .args .sets))) (c .before .before .before .before .before .before .before .before .before .before .area-list .result)), c .before .before .before .before .before .before .before .lay-areas .kept .1 .0 ∙ length-take-le (length (now (c .before .before .before .before .before .before .before .before .before .before .before .before .before .before .before .before .args .sets))) (c .before .before .before .before .before .before .before .before .before .before .area-list .result) (omega (arith, few (c .before .before .before .before .before .before .before .before .before .before .before .before .before .before .before .before .pre .0 .1), c .before .before .before .before .before .before .before .before .before .before .area-list .ensures)))))
 
-put-head-requires : tie.Need-put-head-requires
-put-head-requires c κs =
+put-lines-requires : tie.Need-put-lines-requires
+put-lines-requires c κs =
     let p = c .before .before .before .before .before .before .before .before .before .before .before .before .before .before .before .before .pre .0 .1 in
     let a : take (length (now (c .before .before .before .before .before .before .before .before .before .before .before .before .before .before .before .before .args .sets))) (c .before .before .before .before .before .before .before .lay-areas .last .1 .0 ++ drop (length (now (c .before .before .before .before .before .before .before .before .before .before .before .before .before .before .before .before .args .sets))) (c .before .before .before .before .before .before .before .before .before .before .area-list .result)) ≡ c .before .before .before .before .before .before .before .lay-areas .last .1 .0 = take-at (c .before .before .before .before .before .before .before .lay-areas .last .1 .0) (drop (length (now (c .before .before .before .before .before .before .before .before .before .before .before .before .before .before .before .before .args .sets))) (c .before .before .before .before .before .before .before .before .before .before .area-list .result)) (length (now (c .before .before .before .before .before .before .before .before .before .before .before .before .before .before .before .before .args .sets))) (c .before .before .before .before .before .before .before .lay-areas .kept .1 .0 ∙ length-take-le (length (now (c .before .before .before .before .before .before .before .before .before .before .before .before .before .before .before .before .args .sets))) (c .before .before .before .before .before .before .before .before .before .before .area-list .result) (omega (arith, few (c .before .before .before .before .before .before .before .before .before .before .before .before .before .before .before .before .pre .0 .1), c .before .before .before .before .before .before .before .before .before .before .area-list .ensures))) in
     let o : take (length (now (c .before .before .before .before .before .before .before .before .before .before .before .before .before .before .before .before .args .sets))) (c .before .before .before .before .repair .last .1 .1 .0 ++ drop (length (now (c .before .before .before .before .before .before .before .before .before .before .before .before .before .before .before .before .args .sets))) (c .before .before .before .before .before .before .before .before .before .owner-list .result)) ≡ c .before .before .before .before .repair .last .1 .1 .0 = take-at (c .before .before .before .before .repair .last .1 .1 .0) (drop (length (now (c .before .before .before .before .before .before .before .before .before .before .before .before .before .before .before .before .args .sets))) (c .before .before .before .before .before .before .before .before .before .owner-list .result)) (length (now (c .before .before .before .before .before .before .before .before .before .before .before .before .before .before .before .before .args .sets))) (c .before .before .before .before .repair .kept .1 .1 .0 ∙ length-take-le (length (now (c .before .before .before .before .before .before .before .before .before .before .before .before .before .before .before .before .args .sets))) (c .before .before .before .before .before .before .before .before .before .owner-list .result) (omega (arith, few (c .before .before .before .before .before .before .before .before .before .before .before .before .before .before .before .before .pre .0 .1), c .before .before .before .before .before .before .before .before .before .owner-list .ensures))) in
     ((subst (λ x. Figures (now (c .before .before .before .before .before .before .before .before .before .before .before .before .before .before .before .before .args .sets)) x (take (length (now (c .before .before .before .before .before .before .before .before .before .before .before .before .before .before .before .before .args .sets))) (c .before .before .before .before .before .before .before .lay-areas .last .1 .0 ++ drop (length (now (c .before .before .before .before .before .before .before .before .before .before .before .before .before .before .before .before .args .sets))) (c .before .before .before .before .before .before .before .before .before .before .area-list .result)))) (sym o) (subst (λ x. Figures (now (c .before .before .before .before .before .before .before .before .before .before .before .before .before .before .before .before .args .sets)) (c .before .before .before .before .repair .last .1 .1 .0) x) (sym a) (figures p (c .before .before .before .before .repair .last .1 .1 .0) (c .before .before .before .before .before .before .before .lay-areas .ensures (c .before .before .before .before .before .before .before .before .before .before .before .before .before .before .before .before .pre .0 .0) (now (c .before .before .before .before .before .before .before .before .before .before .before .before .before .before .before .before .args .opposite)) (now (c .before .before .before .before .before .before .before .before .before .before .before .before .before .before .before .before .args .sets)) p (sets-many p ∙ sym (length-take-le (length (now (c .before .before .before .before .before .before .before .before .before .before .before .before .before .before .before .before .args .sets))) (c .before .before .before .before .before .before .before .before .before .before .area-list .result) (omega (arith, few p, c .before .before .before .before .before .before .before .before .before .before .area-list .ensures))))) (c .before .before .before .before .repair .kept .1 .1 .0 ∙ length-take-le (length (now (c .before .before .before .before .before .before .before .before .before .before .before .before .before .before .before .before .args .sets))) (c .before .before .before .before .before .before .before .before .before .owner-list .result) (omega (arith, few (c .before .before .before .before .before .before .before .before .before .before .before .before .before .before .before .before .pre .0 .1), c .before .before .before .before .before .before .before .before .before .owner-list .ensures)))))), omega (arith, polygons-at p .1, few-polygons p), omega (arith, c .before .before .before .before .before .before .before .before .before .before .before .before .before .before .before .before .pre .1))
-
-array-share-prefix-owners-2 : tie.Need-array-share-prefix-owners-2
-array-share-prefix-owners-2 c = omega (arith, length-append (c .before .before .before .before .before .before .before .before .repair .last .1 .1 .0) (drop (length (now (c .before .before .before .before .before .before .before .before .before .before .before .before .before .before .before .before .before .before .before .before .args .sets))) (c .before .before .before .before .before .before .before .before .before .before .before .before .before .owner-list .result)), c .before .before .before .before .before .before .before .before .repair .kept .1 .1 .0 ∙ length-take-le (length (now (c .before .before .before .before .before .before .before .before .before .before .before .before .before .before .before .before .before .before .before .before .args .sets))) (c .before .before .before .before .before .before .before .before .before .before .before .before .before .owner-list .result) (omega (arith, few (c .before .before .before .before .before .before .before .before .before .before .before .before .before .before .before .before .before .before .before .before .pre .0 .1), c .before .before .before .before .before .before .before .before .before .before .before .before .before .owner-list .ensures)))
-
-slice-aggregate-put-after : tie.Need-slice-aggregate-put-after
-slice-aggregate-put-after c = sym (length-take-le _ _ (omega (arith, length-append (c .before .before .before .before .before .before .before .before .before .repair .last .1 .1 .0) (drop (length (now (c .before .before .before .before .before .before .before .before .before .before .before .before .before .before .before .before .before .before .before .before .before .args .sets))) (c .before .before .before .before .before .before .before .before .before .before .before .before .before .before .owner-list .result)), c .before .before .before .before .before .before .before .before .before .repair .kept .1 .1 .0 ∙ length-take-le (length (now (c .before .before .before .before .before .before .before .before .before .before .before .before .before .before .before .before .before .before .before .before .before .args .sets))) (c .before .before .before .before .before .before .before .before .before .before .before .before .before .before .owner-list .result) (omega (arith, few (c .before .before .before .before .before .before .before .before .before .before .before .before .before .before .before .before .before .before .before .before .before .pre .0 .1), c .before .before .before .before .before .before .before .before .before .before .before .before .before .before .owner-list .ensures)))))
-
-array-share-prefix-areas-2 : tie.Need-array-share-prefix-areas-2
-array-share-prefix-areas-2 c = omega (arith, length-append (c .before .before .before .before .before .before .before .before .before .before .before .before .lay-areas .last .1 .0) (drop (length (now (c .before .before .before .before .before .before .before .before .before .before .before .before .before .before .before .before .before .before .before .before .before .args .sets))) (c .before .before .before .before .before .before .before .before .before .before .before .before .before .before .before .area-list .result)), c .before .before .before .before .before .before .before .before .before .before .before .before .lay-areas .kept .1 .0 ∙ length-take-le (length (now (c .before .before .before .before .before .before .before .before .before .before .before .before .before .before .before .before .before .before .before .before .before .args .sets))) (c .before .before .before .before .before .before .before .before .before .before .before .before .before .before .before .area-list .result) (omega (arith, few (c .before .before .before .before .before .before .before .before .before .before .before .before .before .before .before .before .before .before .before .before .before .pre .0 .1), c .before .before .before .before .before .before .before .before .before .before .before .before .before .before .before .area-list .ensures)))
-
-slice-aggregate-put-after-2 : tie.Need-slice-aggregate-put-after-2
-slice-aggregate-put-after-2 c = sym (length-take-le _ _ (omega (arith, length-append (c .before .before .before .before .before .before .before .before .before .before .before .before .before .lay-areas .last .1 .0) (drop (length (now (c .before .before .before .before .before .before .before .before .before .before .before .before .before .before .before .before .before .before .before .before .before .before .args .sets))) (c .before .before .before .before .before .before .before .before .before .before .before .before .before .before .before .before .area-list .result)), c .before .before .before .before .before .before .before .before .before .before .before .before .before .lay-areas .kept .1 .0 ∙ length-take-le (length (now (c .before .before .before .before .before .before .before .before .before .before .before .before .before .before .before .before .before .before .before .before .before .before .args .sets))) (c .before .before .before .before .before .before .before .before .before .before .before .before .before .before .before .before .area-list .result) (omega (arith, few (c .before .before .before .before .before .before .before .before .before .before .before .before .before .before .before .before .before .before .before .before .before .before .pre .0 .1), c .before .before .before .before .before .before .before .before .before .before .before .before .before .before .before .before .area-list .ensures)))))
-
-put-after-requires : tie.Need-put-after-requires
-put-after-requires c κs =
-    let p = c .before .before .before .before .before .before .before .before .before .before .before .before .before .before .before .before .before .before .before .before .before .before .pre .0 .1 in
-    let a : take (length (now (c .before .before .before .before .before .before .before .before .before .before .before .before .before .before .before .before .before .before .before .before .before .before .args .sets))) (c .before .before .before .before .before .before .before .before .before .before .before .before .before .lay-areas .last .1 .0 ++ drop (length (now (c .before .before .before .before .before .before .before .before .before .before .before .before .before .before .before .before .before .before .before .before .before .before .args .sets))) (c .before .before .before .before .before .before .before .before .before .before .before .before .before .before .before .before .area-list .result)) ≡ c .before .before .before .before .before .before .before .before .before .before .before .before .before .lay-areas .last .1 .0 = take-at (c .before .before .before .before .before .before .before .before .before .before .before .before .before .lay-areas .last .1 .0) (drop (length (now (c .before .before .before .before .before .before .before .before .before .before .before .before .before .before .before .before .before .before .before .before .before .before .args .sets))) (c .before .before .before .before .before .before .before .before .before .before .before .before .before .before .before .before .area-list .result)) (length (now (c .before .before .before .before .before .before .before .before .before .before .before .before .before .before .before .before .before .before .before .before .before .before .args .sets))) (c .before .before .before .before .before .before .before .before .before .before .before .before .before .lay-areas .kept .1 .0 ∙ length-take-le (length (now (c .before .before .before .before .before .before .before .before .before .before .before .before .before .before .before .before .before .before .before .before .before .before .args .sets))) (c .before .before .before .before .before .before .before .before .before .before .before .before .before .before .before .before .area-list .result) (omega (arith, few (c .before .before .before .before .before .before .before .before .before .before .before .before .before .before .before .before .before .before .before .before .before .before .pre .0 .1), c .before .before .before .before .before .before .before .before .before .before .before .before .before .before .before .before .area-list .ensures))) in
-    let o : take (length (now (c .before .before .before .before .before .before .before .before .before .before .before .before .before .before .before .before .before .before .before .before .before .before .args .sets))) (c .before .before .before .before .before .before .before .before .before .before .repair .last .1 .1 .0 ++ drop (length (now (c .before .before .before .before .before .before .before .before .before .before .before .before .before .before .before .before .before .before .before .before .before .before .args .sets))) (c .before .before .before .before .before .before .before .before .before .before .before .before .before .before .before .owner-list .result)) ≡ c .before .before .before .before .before .before .before .before .before .before .repair .last .1 .1 .0 = take-at (c .before .before .before .before .before .before .before .before .before .before .repair .last .1 .1 .0) (drop (length (now (c .before .before .before .before .before .before .before .before .before .before .before .before .before .before .before .before .before .before .before .before .before .before .args .sets))) (c .before .before .before .before .before .before .before .before .before .before .before .before .before .before .before .owner-list .result)) (length (now (c .before .before .before .before .before .before .before .before .before .before .before .before .before .before .before .before .before .before .before .before .before .before .args .sets))) (c .before .before .before .before .before .before .before .before .before .before .repair .kept .1 .1 .0 ∙ length-take-le (length (now (c .before .before .before .before .before .before .before .before .before .before .before .before .before .before .before .before .before .before .before .before .before .before .args .sets))) (c .before .before .before .before .before .before .before .before .before .before .before .before .before .before .before .owner-list .result) (omega (arith, few (c .before .before .before .before .before .before .before .before .before .before .before .before .before .before .before .before .before .before .before .before .before .before .pre .0 .1), c .before .before .before .before .before .before .before .before .before .before .before .before .before .before .before .owner-list .ensures))) in
-    ((subst (λ x. Figures (now (c .before .before .before .before .before .before .before .before .before .before .before .before .before .before .before .before .before .before .before .before .before .before .args .sets)) x (take (length (now (c .before .before .before .before .before .before .before .before .before .before .before .before .before .before .before .before .before .before .before .before .before .before .args .sets))) (c .before .before .before .before .before .before .before .before .before .before .before .before .before .lay-areas .last .1 .0 ++ drop (length (now (c .before .before .before .before .before .before .before .before .before .before .before .before .before .before .before .before .before .before .before .before .before .before .args .sets))) (c .before .before .before .before .before .before .before .before .before .before .before .before .before .before .before .before .area-list .result)))) (sym o) (subst (λ x. Figures (now (c .before .before .before .before .before .before .before .before .before .before .before .before .before .before .before .before .before .before .before .before .before .before .args .sets)) (c .before .before .before .before .before .before .before .before .before .before .repair .last .1 .1 .0) x) (sym a) (figures p (c .before .before .before .before .before .before .before .before .before .before .repair .last .1 .1 .0) (c .before .before .before .before .before .before .before .before .before .before .before .before .before .lay-areas .ensures (c .before .before .before .before .before .before .before .before .before .before .before .before .before .before .before .before .before .before .before .before .before .before .pre .0 .0) (now (c .before .before .before .before .before .before .before .before .before .before .before .before .before .before .before .before .before .before .before .before .before .before .args .opposite)) (now (c .before .before .before .before .before .before .before .before .before .before .before .before .before .before .before .before .before .before .before .before .before .before .args .sets)) p (sets-many p ∙ sym (length-take-le (length (now (c .before .before .before .before .before .before .before .before .before .before .before .before .before .before .before .before .before .before .before .before .before .before .args .sets))) (c .before .before .before .before .before .before .before .before .before .before .before .before .before .before .before .before .area-list .result) (omega (arith, few p, c .before .before .before .before .before .before .before .before .before .before .before .before .before .before .before .before .area-list .ensures))))) (c .before .before .before .before .before .before .before .before .before .before .repair .kept .1 .1 .0 ∙ length-take-le (length (now (c .before .before .before .before .before .before .before .before .before .before .before .before .before .before .before .before .before .before .before .before .before .before .args .sets))) (c .before .before .before .before .before .before .before .before .before .before .before .before .before .before .before .owner-list .result) (omega (arith, few (c .before .before .before .before .before .before .before .before .before .before .before .before .before .before .before .before .before .before .before .before .before .before .pre .0 .1), c .before .before .before .before .before .before .before .before .before .before .before .before .before .before .before .owner-list .ensures)))))), omega (arith, polygons-at p .1, few-polygons p), omega (arith, c .before .before .before .before .before .before .before .before .before .before .before .before .before .before .before .before .before .before .before .before .before .before .pre .1, c .before .before .before .before .before .put-head .ensures .0, c .before .before .before .before .before .put-head .kept .0))
 
 same-length : tie.Need-same-length
 same-length c = search needs
 
 returns : tie.Need-returns
 returns c = (
-  omega (arith, c .before .before .before .before .before .before .before .before .put-head .ensures .0, c .before .before .put-after .ensures .0),
+  c .before .before .put-lines .ensures .0,
   λ n j.
-      let p = c .before .before .before .before .before .before .before .before .before .before .before .before .before .before .before .before .before .before .before .before .before .before .before .before .before .pre .0 .1 in
-      let s = now (c .before .before .before .before .before .before .before .before .before .before .before .before .before .before .before .before .before .before .before .before .before .before .before .before .before .args .sets) in
-      let m : getD (now (c .before .before .before .before .before .before .before .before .before .before .before .before .before .before .before .before .before .before .before .before .before .before .before .before .before .args .numbers)) (1 + 6 * length s) 0 - 10000000 ≡ length (n .polygons) = omega (arith, polygons-at j .1) in
-      let a : take (length s) (c .before .before .before .before .before .before .before .before .before .before .before .before .before .before .before .before .lay-areas .last .1 .0 ++ drop (length (now (c .before .before .before .before .before .before .before .before .before .before .before .before .before .before .before .before .before .before .before .before .before .before .before .before .before .args .sets))) (c .before .before .before .before .before .before .before .before .before .before .before .before .before .before .before .before .before .before .before .area-list .result)) ≡ c .before .before .before .before .before .before .before .before .before .before .before .before .before .before .before .before .lay-areas .last .1 .0 = take-at (c .before .before .before .before .before .before .before .before .before .before .before .before .before .before .before .before .lay-areas .last .1 .0) (drop (length (now (c .before .before .before .before .before .before .before .before .before .before .before .before .before .before .before .before .before .before .before .before .before .before .before .before .before .args .sets))) (c .before .before .before .before .before .before .before .before .before .before .before .before .before .before .before .before .before .before .before .area-list .result)) (length s) (c .before .before .before .before .before .before .before .before .before .before .before .before .before .before .before .before .lay-areas .kept .1 .0 ∙ length-take-le (length (now (c .before .before .before .before .before .before .before .before .before .before .before .before .before .before .before .before .before .before .before .before .before .before .before .before .before .args .sets))) (c .before .before .before .before .before .before .before .before .before .before .before .before .before .before .before .before .before .before .before .area-list .result) (omega (arith, few (c .before .before .before .before .before .before .before .before .before .before .before .before .before .before .before .before .before .before .before .before .before .before .before .before .before .pre .0 .1), c .before .before .before .before .before .before .before .before .before .before .before .before .before .before .before .before .before .before .before .area-list .ensures))) in
-      let o : take (length s) (c .before .before .before .before .before .before .before .before .before .before .before .before .before .repair .last .1 .1 .0 ++ drop (length (now (c .before .before .before .before .before .before .before .before .before .before .before .before .before .before .before .before .before .before .before .before .before .before .before .before .before .args .sets))) (c .before .before .before .before .before .before .before .before .before .before .before .before .before .before .before .before .before .before .owner-list .result)) ≡ c .before .before .before .before .before .before .before .before .before .before .before .before .before .repair .last .1 .1 .0 = take-at (c .before .before .before .before .before .before .before .before .before .before .before .before .before .repair .last .1 .1 .0) (drop (length (now (c .before .before .before .before .before .before .before .before .before .before .before .before .before .before .before .before .before .before .before .before .before .before .before .before .before .args .sets))) (c .before .before .before .before .before .before .before .before .before .before .before .before .before .before .before .before .before .before .owner-list .result)) (length s) (c .before .before .before .before .before .before .before .before .before .before .before .before .before .repair .kept .1 .1 .0 ∙ length-take-le (length (now (c .before .before .before .before .before .before .before .before .before .before .before .before .before .before .before .before .before .before .before .before .before .before .before .before .before .args .sets))) (c .before .before .before .before .before .before .before .before .before .before .before .before .before .before .before .before .before .before .owner-list .result) (omega (arith, few (c .before .before .before .before .before .before .before .before .before .before .before .before .before .before .before .before .before .before .before .before .before .before .before .before .before .pre .0 .1), c .before .before .before .before .before .before .before .before .before .before .before .before .before .before .before .before .before .before .owner-list .ensures))) in
-      let k = sets-many j ∙ sym (length-take-le (length s) (c .before .before .before .before .before .before .before .before .before .before .before .before .before .before .before .before .before .before .before .area-list .result) (omega (arith, few p, c .before .before .before .before .before .before .before .before .before .before .before .before .before .before .before .before .before .before .before .area-list .ensures))) in
-      c .before .before .put-after .ensures .1
-      ∙ ap (λ l. l ++ afterBy (c .before .before .before .before .before .before .before .before .before .before .before .before .before .repair .result) (getD (now (c .before .before .before .before .before .before .before .before .before .before .before .before .before .before .before .before .before .before .before .before .before .before .before .before .before .args .numbers)) (1 + 6 * length s) 0 - 10000000) s (take (length s) (c .before .before .before .before .before .before .before .before .before .before .before .before .before .repair .last .1 .1 .0 ++ drop (length (now (c .before .before .before .before .before .before .before .before .before .before .before .before .before .before .before .before .before .before .before .before .before .before .before .before .before .args .sets))) (c .before .before .before .before .before .before .before .before .before .before .before .before .before .before .before .before .before .before .owner-list .result))) (take (length s) (c .before .before .before .before .before .before .before .before .before .before .before .before .before .before .before .before .lay-areas .last .1 .0 ++ drop (length (now (c .before .before .before .before .before .before .before .before .before .before .before .before .before .before .before .before .before .before .before .before .before .before .before .before .before .args .sets))) (c .before .before .before .before .before .before .before .before .before .before .before .before .before .before .before .before .before .before .before .area-list .result)))) (c .before .before .before .before .before .before .before .before .put-head .ensures .1)
-      ∙ ap₂ (λ x y. headBy (getD (now (c .before .before .before .before .before .before .before .before .before .before .before .before .before .before .before .before .before .before .before .before .before .before .before .before .before .args .numbers)) (1 + 6 * length s) 0 - 10000000) s x y ++ afterBy (c .before .before .before .before .before .before .before .before .before .before .before .before .before .repair .result) (getD (now (c .before .before .before .before .before .before .before .before .before .before .before .before .before .before .before .before .before .before .before .before .before .before .before .before .before .args .numbers)) (1 + 6 * length s) 0 - 10000000) s x y) o a
-      ∙ ap (λ m. headBy m s (c .before .before .before .before .before .before .before .before .before .before .before .before .before .repair .last .1 .1 .0) (c .before .before .before .before .before .before .before .before .before .before .before .before .before .before .before .before .lay-areas .last .1 .0) ++ afterBy (c .before .before .before .before .before .before .before .before .before .before .before .before .before .repair .result) m s (c .before .before .before .before .before .before .before .before .before .before .before .before .before .repair .last .1 .1 .0) (c .before .before .before .before .before .before .before .before .before .before .before .before .before .before .before .before .lay-areas .last .1 .0)) m
-      ∙ listing-is j (c .before .before .before .before .before .before .before .before .before .before .before .before .before .repair .last .1 .1 .0) (c .before .before .before .before .before .before .before .before .before .before .before .before .before .before .before .before .lay-areas .ensures n (now (c .before .before .before .before .before .before .before .before .before .before .before .before .before .before .before .before .before .before .before .before .before .before .before .before .before .args .opposite)) s j k) (c .before .before .before .before .before .before .before .before .before .before .before .before .before .repair .kept .1 .1 .0 ∙ length-take-le (length (now (c .before .before .before .before .before .before .before .before .before .before .before .before .before .before .before .before .before .before .before .before .before .before .before .before .before .args .sets))) (c .before .before .before .before .before .before .before .before .before .before .before .before .before .before .before .before .before .before .owner-list .result) (omega (arith, few (c .before .before .before .before .before .before .before .before .before .before .before .before .before .before .before .before .before .before .before .before .before .before .before .before .before .pre .0 .1), c .before .before .before .before .before .before .before .before .before .before .before .before .before .before .before .before .before .before .owner-list .ensures))) (c .before .before .before .before .before .before .before .before .before .before .before .before .before .repair .result) (c .before .before .before .before .before .before .before .before .before .before .before .before .before .repair .ensures),
+      let p = c .before .before .before .before .before .before .before .before .before .before .before .before .before .before .before .before .before .before .before .pre .0 .1 in
+      let s = now (c .before .before .before .before .before .before .before .before .before .before .before .before .before .before .before .before .before .before .before .args .sets) in
+      let m : getD (now (c .before .before .before .before .before .before .before .before .before .before .before .before .before .before .before .before .before .before .before .args .numbers)) (1 + 6 * length s) 0 - 10000000 ≡ length (n .polygons) = omega (arith, polygons-at j .1) in
+      let a : take (length s) (c .before .before .before .before .before .before .before .before .before .before .lay-areas .last .1 .0 ++ drop (length (now (c .before .before .before .before .before .before .before .before .before .before .before .before .before .before .before .before .before .before .before .args .sets))) (c .before .before .before .before .before .before .before .before .before .before .before .before .before .area-list .result)) ≡ c .before .before .before .before .before .before .before .before .before .before .lay-areas .last .1 .0 = take-at (c .before .before .before .before .before .before .before .before .before .before .lay-areas .last .1 .0) (drop (length (now (c .before .before .before .before .before .before .before .before .before .before .before .before .before .before .before .before .before .before .before .args .sets))) (c .before .before .before .before .before .before .before .before .before .before .before .before .before .area-list .result)) (length s) (c .before .before .before .before .before .before .before .before .before .before .lay-areas .kept .1 .0 ∙ length-take-le (length (now (c .before .before .before .before .before .before .before .before .before .before .before .before .before .before .before .before .before .before .before .args .sets))) (c .before .before .before .before .before .before .before .before .before .before .before .before .before .area-list .result) (omega (arith, few (c .before .before .before .before .before .before .before .before .before .before .before .before .before .before .before .before .before .before .before .pre .0 .1), c .before .before .before .before .before .before .before .before .before .before .before .before .before .area-list .ensures))) in
+      let o : take (length s) (c .before .before .before .before .before .before .before .repair .last .1 .1 .0 ++ drop (length (now (c .before .before .before .before .before .before .before .before .before .before .before .before .before .before .before .before .before .before .before .args .sets))) (c .before .before .before .before .before .before .before .before .before .before .before .before .owner-list .result)) ≡ c .before .before .before .before .before .before .before .repair .last .1 .1 .0 = take-at (c .before .before .before .before .before .before .before .repair .last .1 .1 .0) (drop (length (now (c .before .before .before .before .before .before .before .before .before .before .before .before .before .before .before .before .before .before .before .args .sets))) (c .before .before .before .before .before .before .before .before .before .before .before .before .owner-list .result)) (length s) (c .before .before .before .before .before .before .before .repair .kept .1 .1 .0 ∙ length-take-le (length (now (c .before .before .before .before .before .before .before .before .before .before .before .before .before .before .before .before .before .before .before .args .sets))) (c .before .before .before .before .before .before .before .before .before .before .before .before .owner-list .result) (omega (arith, few (c .before .before .before .before .before .before .before .before .before .before .before .before .before .before .before .before .before .before .before .pre .0 .1), c .before .before .before .before .before .before .before .before .before .before .before .before .owner-list .ensures))) in
+      let k = sets-many j ∙ sym (length-take-le (length s) (c .before .before .before .before .before .before .before .before .before .before .before .before .before .area-list .result) (omega (arith, few p, c .before .before .before .before .before .before .before .before .before .before .before .before .before .area-list .ensures))) in
+      c .before .before .put-lines .ensures .1
+      ∙ ap₂ (λ x y. linesBy (c .before .before .before .before .before .before .before .repair .result) (getD (now (c .before .before .before .before .before .before .before .before .before .before .before .before .before .before .before .before .before .before .before .args .numbers)) (1 + 6 * length s) 0 - 10000000) s x y) o a
+      ∙ ap (λ m. linesBy (c .before .before .before .before .before .before .before .repair .result) m s (c .before .before .before .before .before .before .before .repair .last .1 .1 .0) (c .before .before .before .before .before .before .before .before .before .before .lay-areas .last .1 .0)) m
+      ∙ listing-is j (c .before .before .before .before .before .before .before .repair .last .1 .1 .0) (c .before .before .before .before .before .before .before .before .before .before .lay-areas .ensures n (now (c .before .before .before .before .before .before .before .before .before .before .before .before .before .before .before .before .before .before .before .args .opposite)) s j k) (c .before .before .before .before .before .before .before .repair .kept .1 .1 .0 ∙ length-take-le (length (now (c .before .before .before .before .before .before .before .before .before .before .before .before .before .before .before .before .before .before .before .args .sets))) (c .before .before .before .before .before .before .before .before .before .before .before .before .owner-list .result) (omega (arith, few (c .before .before .before .before .before .before .before .before .before .before .before .before .before .before .before .before .before .before .before .pre .0 .1), c .before .before .before .before .before .before .before .before .before .before .before .before .owner-list .ensures))) (c .before .before .before .before .before .before .before .repair .result) (c .before .before .before .before .before .before .before .repair .ensures),
 )
 
 pub put-judged-spec : {M : Type 1} → statement M
@@ -129,14 +109,9 @@ put-judged-spec =
     slice-aggregate-repair
     repair-requires
     array-share-prefix-owners
-    slice-aggregate-put-head
+    slice-aggregate-put-lines
     array-share-prefix-areas
-    slice-aggregate-put-head-2
-    put-head-requires
-    array-share-prefix-owners-2
-    slice-aggregate-put-after
-    array-share-prefix-areas-2
-    slice-aggregate-put-after-2
-    put-after-requires
+    slice-aggregate-put-lines-2
+    put-lines-requires
     same-length
     returns)

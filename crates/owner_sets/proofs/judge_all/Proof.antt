@@ -1,107 +1,73 @@
--- `owner_sets::judge_all` meets its contract: an order is found once, then the polygons are judged in it. Assumes nothing.
-use mathlib.Core.Path.{_≡_, refl, sym, _∙_, ap}
-use mathlib.Core.List.{List, []}
-use Prim.Native.Nat.{ℕ, zero, suc}
+-- `owner_sets::judge_all` meets its contract: counts, labels and the order stand in work lists of the library's own, as long as the table asks.
+-- Assumes nothing.
+use mathlib.Core.Path.{_≡_, sym, _∙_}
+use mathlib.Core.List.{List}
+use Prim.Native.Nat.{ℕ, _*_}
 use native.Mathlib.Omega.{arith}
-use borrow.Author.Needs.{needs}
 use denote.Ref.{now}
-use lib.ListN.{length, replicate, length-replicate}
-use lib.Seq.{take-all}
+use lib.ListN.{length}
+use lib.Seq.{length-take-le}
+use Rattle.table.specs.Sides.{trianglesOf}
 use Rattle.table.proofs.Shares.{length-triangles}
-use Rattle.owners.specs.Owners.{sets, refusal, ofOwnership, judgeFrom}
-use Rattle.owner_sets.specs.Owning.{ownedBy}
-use Rattle.owner_sets.proofs.Standing.{polygons-stand}
 use borrow.Author.Needs.{needs}
 use Rattle.owner_sets.proofs.judge_all.Statement.{statement}
 use Rattle.owner_sets.proofs.judge_all.Tie as tie
 
-refused-as : (r : ℕ) (l : List ℕ) → (r ≡ 0 → ⊥) → refusal 20 r ≡ ownedBy r l
-refused-as zero l n = absurd (n refl)
-refused-as (suc k) l n = refl
+-- Three corners for each triangle.
+corner-count : (keys : List ℕ) (n t : ℕ) → length keys ≡ 3 * n → t ≡ length (trianglesOf keys) → 3 * t ≡ length keys
+corner-count keys n t three e = omega (arith, length-triangles keys n three)
 
-order-requires : tie.Need-order-requires
-order-requires c κs =
-    let a = c .before .before .before .before .before .before .before .before .before .args in
+mul-counts : tie.Need-mul-counts
+mul-counts c = search needs
+
+array-borrow-prefix-counts : tie.Need-array-borrow-prefix-counts
+array-borrow-prefix-counts c = search needs
+
+slice-aggregate-judge-in : tie.Need-slice-aggregate-judge-in
+slice-aggregate-judge-in c = sym (length-take-le _ _ (omega (arith, c .before .before .before .before .before .before .pre .0 .3, c .before .before .before .before .before .before .pre .0 .4)))
+
+array-borrow-prefix-labels : tie.Need-array-borrow-prefix-labels
+array-borrow-prefix-labels c = search needs
+
+slice-aggregate-judge-in-2 : tie.Need-slice-aggregate-judge-in-2
+slice-aggregate-judge-in-2 c = sym (length-take-le _ _ (omega (arith, c .before .before .before .before .before .before .before .pre .0 .3, c .before .before .before .before .before .before .before .pre .0 .4)))
+
+array-borrow-prefix-order : tie.Need-array-borrow-prefix-order
+array-borrow-prefix-order c = search needs
+
+slice-aggregate-judge-in-3 : tie.Need-slice-aggregate-judge-in-3
+slice-aggregate-judge-in-3 c = sym (length-take-le _ _ (omega (arith, c .before .before .before .before .before .before .before .before .pre .0 .3, c .before .before .before .before .before .before .before .before .pre .0 .4)))
+
+judge-in-requires : tie.Need-judge-in-requires
+judge-in-requires c κs =
     let p = c .before .before .before .before .before .before .before .before .before .pre .0 in
-    (p .0, omega (arith, p .5, p .1 .three, length-triangles (p .0) (p .1 .n) (p .1 .three)), omega (arith, p .5, p .7), p .2, p .1 .once, p .1 .opposite-is)
-
-clear-requires : tie.Need-clear-requires
-clear-requires c κs = search needs
-
-mul-polygons : tie.Need-mul-polygons
-mul-polygons c = search needs
-
-add-polygons : tie.Need-add-polygons
-add-polygons c = search needs
-
-polygons-requires : tie.Need-polygons-requires
-polygons-requires c κs =
-    let a = c .before .before .before .before .before .before .before .before .before .before .before .before .before .before .before .before .before .before .before .before .args in
-    let p = c .before .before .before .before .before .before .before .before .before .before .before .before .before .before .before .before .before .before .before .before .pre .0 in
-    let s = c .before .before .before .before .before .before .before .before .before .before .before .before .before .before .before .before .before .before .before .before .pre .1 in
-    let e : c .before .before .before .before .before .before .clear .last .0 ≡ replicate (length (now (a .sets))) 0 = c .before .before .before .before .before .before .clear .ensures in
-    let n : length (c .before .before .before .before .before .before .clear .last .0) ≡ length (now (a .sets)) = ap length e ∙ length-replicate (length (now (a .sets))) 0 in
-    ((p .0, record { indexed = p .1; areas = p .2; reaches = c .before .before .before .before .before .before .before .before .before .before .order .ensures .0 }, p .3, p .4), s .1 .held, (s .0 .polygons, [], polygons-stand (s .0) (now (a .numbers)) (length (now (a .sets))) (s .1) (s .2)), n ∙ p .6 ∙ sym (p .4), e ∙ ap (λ k. replicate k 0) (sym n))
+    let t = length (now (c .before .before .before .before .before .before .before .before .before .args .sets)) in (
+      (p .0, p .1, p .2, length-take-le (3 * t) _ (omega (arith, p .3, p .4)) ∙ corner-count (p .0) (p .1 .n) t (p .1 .three) (p .3), length-take-le t _ (omega (arith, p .3, p .4)) ∙ p .3, length-take-le t _ (omega (arith, p .3, p .4)) ∙ p .3, p .3, p .4),
+      c .before .before .before .before .before .before .before .before .before .pre .1,
+    )
 
 same-length : tie.Need-same-length
 same-length c = search needs
 
-same-length-2 : tie.Need-same-length-2
-same-length-2 c = search needs
-
-same-length-3 : tie.Need-same-length-3
-same-length-3 c = search needs
-
-same-length-4 : tie.Need-same-length-4
-same-length-4 c = search needs
-
 returns : tie.Need-returns
-returns c = (
-  tt,
-  λ keys n x ar held e q l o s.
-      let a = c .before .before .before .before .before .before .before .before .before .before .before .before .before .before .before .before .before .before .before .before .before .before .before .before .before .before .before .before .args in
-      let d = c .before .before .before .before .before .before .before .polygons .ensures keys (n .polygons) [] (record { indexed = x; areas = ar; reaches = c .before .before .before .before .before .before .before .before .before .before .before .before .before .before .before .before .before .before .order .ensures .0 }) q l (polygons-stand n (now (a .numbers)) (length (now (a .sets))) held (ap length (sym e) ∙ sym s)) in
-      refused-as (c .before .before .before .before .before .before .before .polygons .result) (c .before .before .before .before .before .before .before .polygons .last .1 .1 .1 .1 .1 .1 .1 .1 .0) (c .if1 .taken) ∙ d ∙ ap (λ t. ofOwnership (length t) (judgeFrom t 1 (n .polygons))) e,
-)
-
-same-length-5 : tie.Need-same-length-5
-same-length-5 c = search needs
-
-same-length-6 : tie.Need-same-length-6
-same-length-6 c = search needs
-
-same-length-7 : tie.Need-same-length-7
-same-length-7 c = search needs
-
-same-length-8 : tie.Need-same-length-8
-same-length-8 c = search needs
-
-returns-2 : tie.Need-returns-2
-returns-2 c = (
-  omega arith,
-  λ keys n x ar held e q l o s.
-      let a = c .before .before .before .before .before .before .before .before .before .before .before .before .before .before .before .before .before .before .before .before .before .before .before .before .before .before .before .before .args in
-      let d = c .before .before .before .before .before .before .before .polygons .ensures keys (n .polygons) [] (record { indexed = x; areas = ar; reaches = c .before .before .before .before .before .before .before .before .before .before .before .before .before .before .before .before .before .before .order .ensures .0 }) q l (polygons-stand n (now (a .numbers)) (length (now (a .sets))) held (ap length (sym e) ∙ sym s)) in
-      let k : length (c .before .before .before .before .before .before .before .polygons .last .1 .1 .1 .1 .1 .1 .1 .1 .0) ≡ length (now (a .sets)) = c .before .before .before .before .before .before .before .polygons .kept .1 .1 .1 .1 .1 .1 .1 .1 .0 ∙ ap length (c .before .before .before .before .before .before .before .before .before .before .before .before .before .before .clear .ensures) ∙ length-replicate (length (now (a .sets))) 0 in
-      ap sets (take-all (length (now (a .sets))) (c .before .before .before .before .before .before .before .polygons .last .1 .1 .1 .1 .1 .1 .1 .1 .0) (omega arith)) ∙ sym (ap (λ r. ownedBy r (c .before .before .before .before .before .before .before .polygons .last .1 .1 .1 .1 .1 .1 .1 .1 .0)) (c .if1 .left)) ∙ d ∙ ap (λ t. ofOwnership (length t) (judgeFrom t 1 (n .polygons))) e,
-)
+returns c =
+    let p = c .before .before .before .before .before .before .before .before .before .before .before .before .before .before .before .pre .0 in
+    let t = length (now (c .before .before .before .before .before .before .before .before .before .before .before .before .before .before .before .args .sets)) in (
+      c .before .before .before .before .before .judge-in .ensures .0,
+      λ keys n x ar held e s. c .before .before .before .before .before .judge-in .ensures .1 keys n x ar held e (length-take-le (3 * t) _ (omega (arith, p .3, p .4)) ∙ corner-count keys (x .n) t (x .three) s) (length-take-le t _ (omega (arith, p .3, p .4)) ∙ s) (length-take-le t _ (omega (arith, p .3, p .4)) ∙ s) s,
+    )
 
 pub judge-all-spec : {M : Type 1} → statement M
 judge-all-spec =
     tie.close
     (tie.spec
-    order-requires
-    clear-requires
-    mul-polygons
-    add-polygons
-    polygons-requires
+    mul-counts
+    array-borrow-prefix-counts
+    slice-aggregate-judge-in
+    array-borrow-prefix-labels
+    slice-aggregate-judge-in-2
+    array-borrow-prefix-order
+    slice-aggregate-judge-in-3
+    judge-in-requires
     same-length
-    same-length-2
-    same-length-3
-    same-length-4
-    returns
-    same-length-5
-    same-length-6
-    same-length-7
-    same-length-8
-    returns-2)
+    returns)

@@ -9,7 +9,7 @@ use lib.ListN.{length, replicate, length-replicate}
 use borrow.Author.Needs.{needs}
 use Rattle.plane.specs.Members.{Member}
 use Rattle.table.specs.Sides.{trianglesOf}
-use Rattle.owners.specs.Preparing.{Prepared}
+use Rattle.judging.specs.Preparing.{Prepared}
 use Rattle.owner_sets.specs.Owning.{PolygonsAt}
 use Rattle.owner_sets.proofs.Following.{Following, polygons-count, following-none, following-marks, following-next, following-refused, following-more, following-done, refused-owned}
 use Rattle.owner_sets.proofs.polygons.Statement.{statement}

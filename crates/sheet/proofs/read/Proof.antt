@@ -17,11 +17,8 @@ Inv-loop s numbers₀ c₀ b₀ numbers c b = Within s c b × (length numbers �
 abbrev μ-loop : tie.MeasureT-loop
 μ-loop s numbers₀ c₀ b₀ numbers c b = length s - c .at
 
-start-requires : tie.Need-start-requires Inv-loop μ-loop
-start-requires c κs = tt
-
 loop-holds : tie.Need-loop-holds Inv-loop μ-loop
-loop-holds c = (begun _ _ (c .start .ensures), refl, record { leads = λ t out h. (t, h, refl) })
+loop-holds c = (begun _ _ refl, refl, record { leads = λ t out h. (t, h, refl) })
 
 geometry-requires : tie.Need-geometry-requires Inv-loop μ-loop
 geometry-requires c κs = c .before .loop .inv .0
@@ -42,13 +39,13 @@ same-length : tie.Need-same-length Inv-loop μ-loop
 same-length c = search needs
 
 returns : tie.Need-returns Inv-loop μ-loop
-returns c = let e = finish _ _ _ _ _ _ _ (c .before .before .before .before .before .before .before .before .before .start .ensures) (follow-over (c .before .before .before .before .before .before .before .before .loop .inv .2) (was-over _ _ _ _ _ _ _ (c .before .before .before .before .before .before .geometry .ensures) _ _ _ (c .before .before .t2 .given .1))) in (ends-sheet _ _ _ _ _ _ e (c .if1 .taken), e .3)
+returns c = let e = finish _ _ _ _ _ _ _ refl (follow-over (c .before .before .before .before .before .before .before .before .loop .inv .2) (was-over _ _ _ _ _ _ _ (c .before .before .before .before .before .before .geometry .ensures) _ _ _ (c .before .before .t2 .given .1))) in (ends-sheet _ _ _ _ _ _ e (c .if1 .taken), e .3)
 
 same-length-2 : tie.Need-same-length-2 Inv-loop μ-loop
 same-length-2 c = search needs
 
 returns-2 : tie.Need-returns-2 Inv-loop μ-loop
-returns-2 c = let e = finish _ _ _ _ _ _ _ (c .before .before .before .before .before .before .before .before .before .start .ensures) (follow-over (c .before .before .before .before .before .before .before .before .loop .inv .2) (was-over _ _ _ _ _ _ _ (c .before .before .before .before .before .before .geometry .ensures) _ _ _ (c .before .before .t2 .given .1))) in (ends-refused _ _ _ _ _ _ e (c .if1 .left), e .3)
+returns-2 c = let e = finish _ _ _ _ _ _ _ refl (follow-over (c .before .before .before .before .before .before .before .before .loop .inv .2) (was-over _ _ _ _ _ _ _ (c .before .before .before .before .before .before .geometry .ensures) _ _ _ (c .before .before .t2 .given .1))) in (ends-refused _ _ _ _ _ _ e (c .if1 .left), e .3)
 
 pub read-spec : {M : Type 1} → statement M
 read-spec =
@@ -56,7 +53,6 @@ read-spec =
     (tie.spec
     Inv-loop
     μ-loop
-    start-requires
     loop-holds
     geometry-requires
     enum-known-t

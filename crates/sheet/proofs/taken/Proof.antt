@@ -1,5 +1,9 @@
 -- `sheet::taken` meets its contract, by the answers of a step. Assumes nothing.
-use mathlib.Core.Path.{refl, subst}
+use mathlib.Core.Path.{_≡_, refl, subst}
+use Rattle.kinds.specs.declared.Slot.{Slot}
+use Rattle.kinds.specs.Kinds.{slotAt}
+use Rattle.wkb.specs.declared.Cursor.{Cursor}
+use Rattle.wkb.specs.Steps.{slotOf}
 use Rattle.sheet.specs.Reading.{taken}
 use Rattle.sheet.specs.Going.{Ready}
 use borrow.Author.Needs.{needs}
@@ -9,8 +13,8 @@ use Rattle.sheet.proofs.taken.Tie as tie
 enum-known-a : tie.Need-enum-known-a
 enum-known-a c = search needs
 
-slot-requires : tie.Need-slot-requires
-slot-requires c κs = search needs
+standing-requires : tie.Need-standing-requires
+standing-requires c κs = search needs
 
 opening-requires : tie.Need-opening-requires
 opening-requires c κs = subst (Ready _ _) (c .before .before .before .a .given .1) (c .before .before .before .before .before .before .pre)
@@ -36,9 +40,14 @@ enum-known-a-4 c = search needs
 same-length : tie.Need-same-length
 same-length c = search needs
 
+-- the geometry that stands there
+stood : (c : Cursor) (r : Slot) → r ≡ slotAt (c .member) (c .parts) → r ≡ slotOf c
+unfolding slotOf
+stood c r e = e
+
 returns : tie.Need-returns
 unfolding taken
-returns c = rw (c .before .before .before .before .before .before .a .given .1) ((refl, c .before .before .opening .ensures .0), λ t out h. (refl, rw (← (c .before .before .before .before .slot .ensures)) (c .before .before .opening .ensures .1 t out h)))
+returns c = rw (c .before .before .before .before .before .before .a .given .1) ((refl, c .before .before .opening .ensures .0), λ t out h. (refl, rw (← (stood (c .before .before .before .before .before .before .before .before .before .args .c) _ (c .before .before .before .before .standing .ensures))) (c .before .before .opening .ensures .1 t out h)))
 
 same-length-2 : tie.Need-same-length-2
 same-length-2 c = search needs
@@ -67,7 +76,7 @@ taken-spec =
     tie.close
     (tie.spec
     enum-known-a
-    slot-requires
+    standing-requires
     opening-requires
     enum-known-a-2
     ringing-requires

@@ -4,12 +4,11 @@ use mathlib.Core.List.{flatMap}
 use mathlib.Core.Path.{sym, _∙_}
 use native.Mathlib.Omega.{arith}
 use denote.Ref.{now}
-use lib.ListN.{replicate}
 use Rattle.sheet.specs.Reading.{readingOf}
 use Rattle.sheet.proofs.Fit.{numbers-fit}
 use Rattle.little.specs.Bytes.{heldBytes}
-use Rattle.little.proofs.Bytes.{held-length, all-length, written}
-use Rattle.sheets.proofs.Room.{room, enough}
+use Rattle.little.proofs.Bytes.{held-length, all-length}
+use Rattle.sheets.proofs.Room.{room, written}
 use Rattle.lent.proofs.Answered.{answered-refusal, answered-short, answered-bytes}
 use Rattle.outcomes.proofs.Outcomes.{refused-is, sheet-is}
 use borrow.Author.Needs.{needs}
@@ -70,7 +69,7 @@ returns-3 c =
     let s = now (c .before .before .before .before .before .before .before .before .before .before .before .before .before .before .args .sheet) in
     let e = sheet-is (readingOf s) _ (sym (c .before .before .before .before .before .before .before .before .before .before .read .ensures .0) ∙ c .before .before .before .before .before .before .before .ending2 .given .1) in
     let l = all-length 4 heldBytes held-length (readingOf s .numbers) in
-    answered-bytes _ _ _ (flatMap heldBytes (readingOf s .numbers)) (e .0) _ (omega (arith, l, e .1)) (c .before .before .write .ensures ∙ written (readingOf s .numbers) (replicate 16450 0) _ _ _ (c .before .before .before .before .before .before .before .before .before .before .read .ensures .1) (enough (numbers-fit s (e .2))) (e .1))
+    answered-bytes _ _ _ (flatMap heldBytes (readingOf s .numbers)) (e .0) _ (omega (arith, l, e .1)) (c .before .before .write .ensures ∙ written _ (readingOf s .numbers) _ _ (c .before .before .before .before .before .before .before .before .before .before .read .ensures .1) (numbers-fit s (e .2)) (e .1))
 
 pub sheet-numbers-spec : {M : Type 1} → statement M
 sheet-numbers-spec =

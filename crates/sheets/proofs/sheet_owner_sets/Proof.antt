@@ -6,7 +6,7 @@ use denote.Ref.{now}
 use lib.Seq.{length-take-le}
 use Rattle.lent.specs.Answered.{Answered}
 use Rattle.lent.proofs.Answered.{answered-refusal}
-use Rattle.answers.specs.Answers.{setsOutcome}
+use Rattle.set_bytes.specs.Sets.{setsOutcome}
 use Rattle.judged.proofs.Standing.{stands, refused-is, few, sets-many}
 use Rattle.outcomes.proofs.Judged.{refused-on, owner-sets-on}
 use Rattle.sheets.proofs.sheet_owner_sets.Statement.{statement}

@@ -10,11 +10,11 @@ use lib.Dec.{eqb}
 use lib.ListN.{length, take, drop, getD, length-append, length-drop, length-take, take-append-drop}
 use lib.Seq.{take-append-seam, drop-append-seam, drop-drop, getD-drop, drop-cons}
 use Rattle.whole.specs.Sums.{All}
-use Rattle.wkb.specs.declared.Kind.{Kind}
-use Rattle.wkb.specs.Bytes.{numberOf, bytesOf, field, wordAt}
-use Rattle.wkb.specs.Kinds.{typeOf}
+use Rattle.kinds.specs.declared.Kind.{Kind}
+use Rattle.little.specs.Ordered.{numberOf, bytesOf, field, wordAt}
+use Rattle.kinds.specs.Kinds.{typeOf}
 use Rattle.wkb.specs.Standard.{Pair, order, header, encodePoint}
-use Rattle.wkb.proofs.Bytes.{length-bytesOf, numberOf-below, numberOf-bytesOf, bytesOf-numberOf}
+use Rattle.little.proofs.Ordered.{length-bytesOf, numberOf-below, numberOf-bytesOf, bytesOf-numberOf}
 
 -- Each byte is below 256.
 abbrev pub Bytes : List ℕ → Type 0

@@ -6,9 +6,9 @@ use Prim.Native.Nat.{ℕ, _+_, _≤_}
 use native.Mathlib.Omega.{arith}
 use lib.ListN.{length, drop}
 use Rattle.wkb.specs.declared.Cursor.{Cursor}
-use Rattle.wkb.specs.declared.Kind.{Kind}
+use Rattle.kinds.specs.declared.Kind.{Kind}
 use Rattle.wkb.specs.Standard.{holding, Geometries, count, encode, encodeAll}
-use Rattle.wkb.specs.Kinds.{typeOf}
+use Rattle.kinds.specs.Kinds.{typeOf}
 use Rattle.sheet.specs.Reading.{Taken}
 use Rattle.standard.specs.Limits.{memberOf}
 use Rattle.standard.proofs.Standard.Fields.{heading, heading-is}

@@ -9,10 +9,10 @@ use native.Mathlib.Omega.{arith}
 use lib.Dec.{eqb}
 use lib.ListN.{length, drop}
 use Rattle.wkb.specs.declared.Cursor.{Cursor}
-use Rattle.wkb.specs.declared.Slot.the-variants.{Member}
-use Rattle.wkb.specs.declared.Kind.{Kind}
-use Rattle.wkb.specs.declared.Kind.the-variants.{Polygon, MultiPolygon, Collection}
-use Rattle.wkb.specs.Kinds.{typeOf}
+use Rattle.kinds.specs.declared.Slot.the-variants.{Member}
+use Rattle.kinds.specs.declared.Kind.{Kind}
+use Rattle.kinds.specs.declared.Kind.the-variants.{Polygon, MultiPolygon, Collection}
+use Rattle.kinds.specs.Kinds.{typeOf}
 use Rattle.wkb.specs.Standard.{Pair, Geometry, ringed, holding, Geometries, none, _then_, count, encodeRing, encode, encodeAll}
 use Rattle.wkb.specs.Steps.{kindFault, countFits, opened}
 use Rattle.sheet.specs.Reading.{Taken, reading}

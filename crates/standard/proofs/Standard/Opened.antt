@@ -10,8 +10,8 @@ use lib.Dec.{ltb, leb, eqb}
 use Rattle.whole.proofs.Tests.{by-equal}
 use Rattle.coordinate.proofs.Doubles.{and-true}
 use Rattle.wkb.specs.declared.Cursor.{Cursor}
-use Rattle.wkb.specs.declared.Slot.{Slot}
-use Rattle.wkb.specs.declared.Slot.the-variants.{Part, Member}
+use Rattle.kinds.specs.declared.Slot.{Slot}
+use Rattle.kinds.specs.declared.Slot.the-variants.{Part, Member}
 use Rattle.wkb.specs.Steps.{slotOf, crowded, deep, kindFault, countFits, withRings, withParts, withMembers, fewerParts, opened}
 use Rattle.sheet.specs.Reading.{Taken, opening, begin}
 use Rattle.standard.specs.Limits.{FromTo}

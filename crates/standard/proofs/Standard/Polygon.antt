@@ -9,7 +9,7 @@ use borrow.Author.Tests.{lt-ltb}
 use lib.ListN.{length, drop, set, length-map, length-set}
 use lib.Seq.{set-set, getD-set-same}
 use Rattle.wkb.specs.declared.Cursor.{Cursor}
-use Rattle.wkb.specs.declared.Kind.the-variants.{Polygon}
+use Rattle.kinds.specs.declared.Kind.the-variants.{Polygon}
 use Rattle.wkb.specs.Standard.{Pair, ringed, encodeRing, encode}
 use Rattle.wkb.specs.Steps.{withRings}
 use Rattle.sheet.specs.Numbers.{ringNumbers, partNumbers, memberNumbers}

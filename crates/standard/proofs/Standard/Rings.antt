@@ -9,7 +9,7 @@ use borrow.Author.Tests.{ne-eqb, le-leb, leb-true}
 use lib.ListN.{length, drop, getD, length-map}
 use Rattle.coordinate.proofs.Doubles.{and-true}
 use Rattle.wkb.specs.declared.Cursor.{Cursor}
-use Rattle.wkb.specs.Bytes.{bytesOf}
+use Rattle.little.specs.Ordered.{bytesOf}
 use Rattle.wkb.specs.Standard.{Pair, encodePoint, encodeRing}
 use Rattle.wkb.specs.Steps.{ringFits, withPoints}
 use Rattle.sheet.specs.Numbers.{pointNumbers, ringNumbers}

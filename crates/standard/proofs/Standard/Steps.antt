@@ -15,9 +15,9 @@ use Rattle.coordinate.specs.Coordinate.{coordinateOf}
 use Rattle.coordinate.specs.declared.Coordinate.{Coordinate}
 use Rattle.coordinate.specs.declared.Coordinate.the-variants.{Whole, Not}
 use Rattle.wkb.specs.declared.Cursor.{Cursor}
-use Rattle.wkb.specs.declared.Slot.{Slot}
+use Rattle.kinds.specs.declared.Slot.{Slot}
 use Rattle.wkb.specs.declared.Step.{Step}
-use Rattle.wkb.specs.Bytes.{numberOf, bytesOf, field, remains, wordAt, doubleAt}
+use Rattle.little.specs.Ordered.{numberOf, bytesOf, field, remains, wordAt, doubleAt}
 use Rattle.wkb.specs.Standard.{Pair, order, encodePoint}
 use Rattle.wkb.specs.Steps.{slotOf, complete, kindFault, countFits, opened, geometryAt, ringFits, withPoints, ringAt, afterPoint, pointAt, endAt, stepAt}
 use Rattle.sheet.specs.Reading.{Taken, Reading, Turn, on, over, opening, ringing, noted, pointing, judged, taken, turn, reading}

@@ -12,10 +12,10 @@ use lib.ListN.{length, drop}
 use Rattle.whole.specs.Sums.{All}
 use Rattle.plane.specs.Corners.{millimetres}
 use Rattle.wkb.specs.declared.Cursor.{Cursor}
-use Rattle.wkb.specs.declared.Slot.the-variants.{Piece}
-use Rattle.wkb.specs.declared.Kind.{Kind}
-use Rattle.wkb.specs.declared.Kind.the-variants.{Polygon, MultiPolygon, Collection, Tin, Triangle as Three}
-use Rattle.wkb.specs.Kinds.{typeOf}
+use Rattle.kinds.specs.declared.Slot.the-variants.{Piece}
+use Rattle.kinds.specs.declared.Kind.{Kind}
+use Rattle.kinds.specs.declared.Kind.the-variants.{Polygon, MultiPolygon, Collection, Tin, Triangle as Three}
+use Rattle.kinds.specs.Kinds.{typeOf}
 use Rattle.wkb.specs.Standard.{Pair, Geometry, ringed, holding, Geometries, _then_, count, encodeRing, encode, encodeAll}
 use Rattle.wkb.specs.Steps.{slotOf, kindFault, countFits, withRings, fewerParts, opened}
 use Rattle.sheet.specs.Numbers.{triangleNumbers}

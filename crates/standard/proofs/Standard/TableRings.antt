@@ -8,7 +8,7 @@ use borrow.Author.Tests.{eq-eqb, eqb-true}
 use lib.IntN.{pos}
 use lib.ListN.{length, drop, getD}
 use Rattle.wkb.specs.declared.Cursor.{Cursor}
-use Rattle.wkb.specs.Bytes.{bytesOf}
+use Rattle.little.specs.Ordered.{bytesOf}
 use Rattle.wkb.specs.Standard.{Pair, Geometries, count, encodePoint, encodeRing, encodeAll}
 use Rattle.wkb.specs.Steps.{ringFits, withPoints}
 use Rattle.sheet.specs.Numbers.{triangleNumbers}

@@ -11,20 +11,20 @@ use denote.Ref.{now}
 use lib.Dec.{T, eqb}
 use lib.ListN.{length, length-append}
 use lib.Seq.{sets, length-sets}
-use Rattle.wkb.specs.Bytes.{bytes, bytesOf, ordered}
+use Rattle.little.specs.Ordered.{bytes, bytesOf, ordered}
 use Rattle.wkb.specs.Standard.{header}
-use Rattle.wkb.specs.declared.Kind.{Kind}
-use Rattle.wkb.specs.declared.Kind.the-variants.{Polygon, MultiPolygon}
+use Rattle.kinds.specs.declared.Kind.{Kind}
+use Rattle.kinds.specs.declared.Kind.the-variants.{Polygon, MultiPolygon}
 use Rattle.writer.specs.declared.Walk.{Walk}
 use Rattle.writer.specs.Emit.{heading}
-use Rattle.writer.proofs.Numbers.{sets-++}
+use Rattle.little.proofs.Stored.{sets-++}
 use borrow.Author.Needs.{needs}
 use Rattle.writer.proofs.head.Statement.{statement}
 use Rattle.writer.proofs.head.Tie as tie
 use Rattle.writer.proofs.head.Reads as reads
 use Rattle.writer.proofs.head.Lts as lts
 use Rattle.writer.proofs.header.Reads as header-reads
-use Rattle.writer.proofs.put.Reads as put-reads
+use Rattle.little.proofs.put.Reads as put-reads
 
 -- ---- bytes written from a place, and the place and the lent bytes then
 abbrev Wrote : List ℕ → ℕ → List ℕ → List ℕ → ℕ → Type 0

@@ -5,11 +5,11 @@ use mathlib.Core.List.{List, _++_}
 use Prim.Native.Nat.{ℕ, _+_}
 use denote.Ref.{now}
 use lib.Seq.{sets}
-use Rattle.wkb.specs.Bytes.{bytes, ordered}
-use Rattle.wkb.specs.Kinds.{typeOf}
+use Rattle.little.specs.Ordered.{bytes, ordered}
+use Rattle.kinds.specs.Kinds.{typeOf}
 use Rattle.wkb.specs.Standard.{header}
-use Rattle.wkb.specs.declared.Kind.{Kind}
-use Rattle.writer.proofs.Numbers.{sets-++}
+use Rattle.kinds.specs.declared.Kind.{Kind}
+use Rattle.little.proofs.Stored.{sets-++}
 use borrow.Author.Needs.{needs}
 use Rattle.writer.proofs.header.Statement.{statement}
 use Rattle.writer.proofs.header.Tie as tie

@@ -90,7 +90,7 @@ put-requires-2 c κs =
     let f = c .before .before .before .before .before .before .before .before .before .before .before .before .before .before .before .before .before .before .before .before .before .before .before .pre in
     let v = c .before .before .before .before .before .before .before .things in
     let h = went-near (numbersIn s) (emitMany (emit 0) 3 (drop (a .w .at) (numbersIn s))) (ringed (a .w)) (v .result) (c .before .before .before .before .before .before .before .before .before .before .before .before .put .last .0) (v .last .1 .0) (ringed-fair (numbersIn s) (a .w) (f .0) (f .1)) (v .ensures) (turned-on (v .result .good) (c .before .before .before .if2 .left)) in
-    (omega arith, omega arith)
+    omega arith
 
 -- src/lib.rt:228:14
 add-put-2 : tie.Need-add-put-2
@@ -136,7 +136,7 @@ put-requires-3 c κs =
     let f = c .before .before .before .before .before .before .before .before .before .before .before .before .before .before .before .before .before .before .before .before .before .before .before .before .before .before .before .before .before .before .before .pre in
     let v = c .before .before .before .before .before .before .before .before .before .before .before .before .before .before .before .things in
     let h = went-near (numbersIn s) (emitMany (emit 0) 3 (drop (a .w .at) (numbersIn s))) (ringed (a .w)) (v .result) (c .before .before .before .before .before .before .before .before .before .before .before .before .before .before .before .before .before .before .before .before .put .last .0) (v .last .1 .0) (ringed-fair (numbersIn s) (a .w) (f .0) (f .1)) (v .ensures) (turned-on (v .result .good) (c .before .before .before .before .before .before .before .before .before .before .before .if2 .left)) in
-    (omega arith, omega arith)
+    omega arith
 
 -- src/lib.rt:229:26
 add-t7 : tie.Need-add-t7

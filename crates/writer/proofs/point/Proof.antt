@@ -14,7 +14,7 @@ use mir.Val.{toZ}
 use lib.IntN.{ℤ}
 use lib.ListN.{length, drop, length-drop}
 use lib.Seq.{sets}
-use Rattle.wkb.specs.Bytes.{bytes, ordered, wordAt}
+use Rattle.little.specs.Ordered.{bytes, ordered, wordAt}
 use Rattle.wkb.specs.Standard.{encodePoint}
 use Rattle.written.specs.Fits.{inRange}
 use Rattle.written.specs.Form.{numbersIn}
@@ -22,7 +22,8 @@ use Rattle.written.specs.Normal.{patternOf}
 use Rattle.writer.specs.declared.Walk.{Walk}
 use Rattle.writer.specs.Emit.{Emitted, emitPoint}
 use Rattle.writer.specs.Walks.{Went}
-use Rattle.writer.proofs.Numbers.{numbers-length, numbers-at, sets-++}
+use Rattle.little.proofs.Stored.{sets-++}
+use Rattle.writer.proofs.Numbers.{numbers-length, numbers-at}
 use borrow.Author.Needs.{needs}
 use Rattle.writer.proofs.point.Statement.{statement}
 use Rattle.writer.proofs.point.Tie as tie

@@ -12,7 +12,7 @@ use lib.Dec.{eqb}
 use lib.IntN.{ℤ, pos}
 use lib.ListN.{length, drop, getD, length-drop}
 use Rattle.whole.specs.Numbers.{eqZ}
-use Rattle.wkb.specs.Bytes.{wordAt}
+use Rattle.little.specs.Ordered.{wordAt}
 use Rattle.written.specs.Form.{numbersIn}
 use Rattle.writer.specs.Emit.{closed}
 use Rattle.writer.proofs.Numbers.{numbers-length, number-behind, signed-same}

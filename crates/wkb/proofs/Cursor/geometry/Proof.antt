@@ -10,8 +10,10 @@ use lib.Dec.{ltb, eqb}
 use lib.ListN.{length, getD}
 use denote.Ref.{now}
 use Rattle.wkb.specs.declared.Cursor.{Cursor}
-use Rattle.wkb.specs.Bytes.{remains, wordAt}
-use Rattle.wkb.specs.Steps.{geometryAt, slotOf, kindFault, countFits}
+use Rattle.little.specs.Ordered.{remains, wordAt}
+use Rattle.kinds.specs.declared.Slot.{Slot}
+use Rattle.types.specs.Types.{crowdedAt, deepAt, faultAt}
+use Rattle.wkb.specs.Steps.{geometryAt, slotOf, crowded, deep, kindFault, countFits}
 use Rattle.wkb.proofs.Steps.{count-some}
 use Rattle.wkb.proofs.Cursor.geometry.Statement.{statement}
 use Rattle.wkb.proofs.Cursor.geometry.Tie as tie
@@ -66,8 +68,16 @@ module _ (d : tie.Else3) where
 kind : (d : tie.After-word) → d .word .result ≡ K3 (d .before)
 kind d = d .word .ensures
 
-fault : (d : tie.After-kind-fault) → d .kind-fault .result ≡ F3 (d .before .before .before)
-fault d = d .kind-fault .ensures ∙ ap₂ (λ x k. kindFault x (C3 (d .before .before .before)) k) (d .before .slot .ensures) (kind (d .before .before))
+stood : (d : tie.After-standing) → d .standing .result ≡ slotOf (C3 (d .before .before))
+unfolding slotOf
+stood d = d .standing .ensures
+
+named : (slot : Slot) (c : Cursor) (kind r : ℕ) → r ≡ faultAt slot (crowdedAt (c .polygons)) (deepAt (c .fourth)) kind → r ≡ kindFault slot c kind
+unfolding kindFault crowded deep
+named slot c kind r e = e
+
+fault : (d : tie.After-fault) → d .fault .result ≡ F3 (d .before .before .before)
+fault d = named _ (C3 (d .before .before .before)) _ _ (d .fault .ensures) ∙ ap₂ (λ x k. kindFault x (C3 (d .before .before .before)) k) (stood (d .before)) (kind (d .before .before))
 
 allowed : (d : tie.Else4) → F3 (d .before .before .before .before) ≡ 0
 allowed d = sym (fault (d .before)) ∙ d .if4 .left
@@ -93,7 +103,7 @@ module _ (d : tie.After-count-fits) where
   D3 = d .before .before .before .before .before .before .before .before
 
   pub limits : d .count-fits .result ≡ countFits (slotOf (C3 D3)) (N3 D3)
-  limits = d .count-fits .ensures ∙ ap₂ countFits (d .before .before .before .before .before .before .slot .ensures) (count (d .before))
+  limits = d .count-fits .ensures ∙ ap₂ countFits (stood (d .before .before .before .before .before .before)) (count (d .before))
 
 remain-requires : tie.Need-remain-requires
 remain-requires c κs = search needs
@@ -137,11 +147,11 @@ add-word c = let n = type-fits c in omega arith
 word-requires : tie.Need-word-requires
 word-requires c κs = let n = type-fits c in omega arith
 
-slot-requires : tie.Need-slot-requires
-slot-requires c κs = search needs
+standing-requires : tie.Need-standing-requires
+standing-requires c κs = search needs
 
-kind-fault-requires : tie.Need-kind-fault-requires
-kind-fault-requires c κs = search needs
+fault-requires : tie.Need-fault-requires
+fault-requires c κs = search needs
 
 refused-requires-4 : tie.Need-refused-requires-4
 refused-requires-4 c κs = search needs
@@ -156,7 +166,7 @@ returns-4 c =
       small (d .before .before),
       typed d,
       ← fault (c .before .before),
-      ne-eqb (c .before .before .kind-fault .result) 0 (c .before .if4 .taken),
+      ne-eqb (c .before .before .fault .result) 0 (c .before .if4 .taken),
     )
 
 remain-requires-3 : tie.Need-remain-requires-3
@@ -217,7 +227,7 @@ returns-7 c =
       c .opened .ensures,
       kind (c .before .before .before .before .before .before .before .before .before),
       count (c .before .before .before),
-      c .before .before .before .before .before .before .before .before .slot .ensures,
+      stood (c .before .before .before .before .before .before .before .before),
       ordered (d .before .before .before .before),
       small (d .before .before),
       typed d,
@@ -241,8 +251,8 @@ geometry-spec =
     returns-3
     add-word
     word-requires
-    slot-requires
-    kind-fault-requires
+    standing-requires
+    fault-requires
     refused-requires-4
     returns-4
     remain-requires-3

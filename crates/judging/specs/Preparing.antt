@@ -1,0 +1,37 @@
+-- What is found once for a table, and how the code's answer shows the judging of one member.
+use mathlib.Core.Path.{_≡_}
+use mathlib.Core.Logic.{_↔_}
+use mathlib.Core.Bool.{Bool}
+use mathlib.Core.List.{List}
+use Prim.Native.Nat.{ℕ, _*_}
+use lib.ListN.{length}
+use Rattle.whole.specs.Sums.{Among}
+use Rattle.plane.specs.Points.{Point, samePoint}
+use Rattle.plane.specs.Boundaries.{sidesOf}
+use Rattle.plane.specs.Keys.{pointsAt}
+use Rattle.table.specs.Table.{corners, RuleA, RuleB}
+use Rattle.table.specs.Sides.{trianglesOf, opposites, Reaches}
+use Rattle.counting.specs.Counting.{Looked}
+use Rattle.judging.specs.declared.Judging.{Judging}
+use Rattle.judging.specs.declared.Judging.the-variants.{Carried, NotCarried}
+use Rattle.owners.specs.Judging.{Judged, carried, notCarried}
+
+-- The table whose triangles have these corners: its corners in order and its sides are looked up, and the side across each side is known.
+pub record Indexed (keys ordered index opposite : List ℕ) : Type 0 where
+  pub n : ℕ
+  pub three : length keys ≡ 3 * n
+  pub once : RuleB (trianglesOf keys)
+  pub looked : Looked (sidesOf (trianglesOf keys)) ordered index
+  pub corners-are : (c : Point) → Among samePoint c (pointsAt ordered) ↔ Among samePoint c (corners (trianglesOf keys))
+  pub opposite-is : opposite ≡ opposites (sidesOf (trianglesOf keys))
+
+-- Rule A holds too, and there is an order in which labels are forced.
+pub record Prepared (keys ordered index opposite order : List ℕ) : Type 0 where
+  pub indexed : Indexed keys ordered index opposite
+  pub areas : RuleA (trianglesOf keys)
+  pub reaches : Reaches opposite order
+
+-- The answer with the labels: carried by the labelled set, or not carried.
+abbrev pub judgedOf : Judging → List Bool → Judged
+judgedOf Carried labels = carried labels
+judgedOf NotCarried labels = notCarried

@@ -1,0 +1,2 @@
+-- The kinds of geometry, and which geometry stands at a place.
+pub mod Kinds

@@ -1,0 +1,2 @@
+-- The answer of the entry for owner sets.
+pub mod Sets

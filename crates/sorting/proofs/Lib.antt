@@ -1,0 +1,2 @@
+-- The laws of numbers moved up and laid down.
+pub mod Moves

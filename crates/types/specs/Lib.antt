@@ -1,0 +1,2 @@
+-- Which types may stand where a geometry stands.
+pub mod Types

@@ -1,0 +1,16 @@
+//! The library beside the independent program, for the bench and the fuzz target.
+
+use independent::entries::Entry;
+use sheets::{lent, Refusal};
+
+/// Calls the library's entry of that name.
+pub fn call(entry: Entry, input: &[u8], out: &mut [u8]) -> Result<u64, Refusal> {
+    match entry {
+        Entry::Numbers => lent::numbers(input, out),
+        Entry::Write => lent::write(input, out),
+        Entry::OwnerSets => lent::owner_sets(input, out),
+        Entry::Owners => lent::owners(input, out),
+        Entry::Boundary(polygon) => lent::boundary(input, polygon, out),
+        Entry::Listing => lent::listing(input, out),
+    }
+}

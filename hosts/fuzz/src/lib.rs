@@ -1,0 +1,46 @@
+//! The fuzz target, for libFuzzer. Each input goes to every entry with several numbers of lent bytes: the answer, every byte written and every byte not
+//! written must be those of the independent program, whose code guides the fuzzer.
+
+use beside::call;
+use independent::entries::{fit, packed, whole, Entry};
+
+/// What a lent byte is before a call.
+const LENT: u8 = 0xa7;
+
+/// One input. A difference ends the process with status 1; the input is left in the file that DIFFERENCE names.
+///
+/// # Safety
+/// `data` has `size` bytes.
+#[no_mangle]
+pub unsafe extern "C" fn LLVMFuzzerTestOneInput(data: *const u8, size: usize) -> i32 {
+    let input = if size == 0 { &[] } else { std::slice::from_raw_parts(data, size) };
+    let asked = u32::from(input.last().copied().unwrap_or(0) % 5);
+    let entries = [Entry::Numbers, Entry::OwnerSets, Entry::Owners, Entry::Boundary(asked), Entry::Listing, Entry::Write];
+    let mut difference = entries.into_iter().find_map(|entry| compare(entry, input));
+    if let Ok(numbers) = whole(Entry::Numbers, input) {
+        difference = difference.or_else(|| compare(Entry::Write, &numbers.bytes));
+    }
+    if let Some(difference) = difference {
+        let file = std::env::var("DIFFERENCE").unwrap_or("difference.wkb".into());
+        let kept = std::fs::write(&file, input);
+        eprintln!("DIFFERENCE {difference}; its input is in {file} ({kept:?})");
+        std::process::exit(1);
+    }
+    0
+}
+
+/// How the entry's answers differ with lent bytes one short, just enough, none and more, if they do.
+fn compare(entry: Entry, input: &[u8]) -> Option<String> {
+    let answer = whole(entry, input);
+    let length = answer.as_ref().map_or(8, |success| success.bytes.len());
+    [length.saturating_sub(1), length, 0, length + 9].into_iter().find_map(|room| {
+        let mut out = vec![LENT; room];
+        let got = call(entry, input, &mut out).map_or_else(|refusal| refusal.item * 256 + u64::from(refusal.code), |item| item * 256);
+        let (right, written) = match fit(answer.clone(), room) {
+            Ok(success) => (success.item * 256, success.bytes),
+            Err(refusal) => (packed(refusal), Vec::new()),
+        };
+        let lent = out.starts_with(&written) && out[written.len()..].iter().all(|byte| *byte == LENT);
+        (got != right || !lent).then(|| format!("{entry:?} with {room}: answers {got}, right is {right}, lent bytes as they should be: {lent}"))
+    })
+}

@@ -1,0 +1,102 @@
+//! `vectors FILE [BRIDGE]`: compares every `call` and `listing` line of a vectors file with the independent answers, or
+//! with those of the library behind a bridge. Prints each difference and last `N passed, M failed`; the exit status is 1
+//! if any failed.
+
+use independent::bridge::{start, Call};
+use independent::entries::{fit, whole, Entry, Success};
+use independent::listing::LONGEST_INPUT;
+use independent::Refusal;
+use std::io::{BufReader, Write};
+use std::process::{Child, ChildStdin, ChildStdout, ExitCode};
+
+fn main() -> ExitCode {
+    let words: Vec<String> = std::env::args().skip(1).collect();
+    let path = words.first().expect("usage: vectors FILE [BRIDGE]");
+    let mut answers = words.get(1).map(|bridge| Pipes::of(start(bridge)));
+    let text = std::fs::read_to_string(path).expect("the vectors file can be read");
+    let (mut name, mut input) = (String::new(), Vec::new());
+    let (mut passed, mut failed) = (0, 0);
+    for line in text.lines() {
+        let words: Vec<&str> = line.split_whitespace().collect();
+        let (call, given) = match words[..] {
+            ["input", new_name, hex] => {
+                (name, input) = (new_name.to_string(), unhex(hex));
+                continue;
+            }
+            ["call", entry, asked, room, packed, output] => {
+                (call(&name, entry, asked, room, packed, output), &input[..])
+            }
+            ["listing", hex] => (listing(&name, hex), &input[..input.len().min(LONGEST_INPUT)]),
+            [] => continue,
+            _ => panic!("unknown line {line}"),
+        };
+        match difference(&call, given, &mut answers) {
+            None => passed += 1,
+            Some(difference) => {
+                failed += 1;
+                println!("{}: {difference}", call.name());
+            }
+        }
+    }
+    println!("{passed} passed, {failed} failed");
+    ExitCode::from(u8::from(failed > 0))
+}
+
+/// A bridge's input and output.
+struct Pipes {
+    frames: ChildStdin,
+    answers: BufReader<ChildStdout>,
+}
+
+impl Pipes {
+    fn of(child: Child) -> Pipes {
+        let answers = BufReader::new(child.stdout.expect("the bridge's output"));
+        Pipes { frames: child.stdin.expect("the bridge's input"), answers }
+    }
+}
+
+/// The difference of the answer from the call's line, if any: the bridge's, or the independent one.
+fn difference(call: &Call, input: &[u8], pipes: &mut Option<Pipes>) -> Option<String> {
+    if let Some(Pipes { frames, answers }) = pipes {
+        frames.write_all(&call.frame(input)).expect("the bridge takes a frame");
+        return call.difference(answers);
+    }
+    let got = fit(whole(call.entry, input), call.room);
+    (got != call.expected).then(|| format!("file {:?}, independent {got:?}", call.expected))
+}
+
+/// The bytes of a hexadecimal word; '.' stands for none.
+fn unhex(hex: &str) -> Vec<u8> {
+    let hex = if hex == "." { "" } else { hex };
+    let byte = |at: usize| u8::from_str_radix(&hex[at..at + 2], 16).expect("hexadecimal digits");
+    (0..hex.len()).step_by(2).map(byte).collect()
+}
+
+fn entry(name: &str, asked: &str) -> Entry {
+    match name {
+        "numbers" => Entry::Numbers,
+        "write" => Entry::Write,
+        "sets" => Entry::OwnerSets,
+        "owners" => Entry::Owners,
+        "boundary" => Entry::Boundary(asked.parse().expect("a polygon's number")),
+        _ => panic!("unknown entry {name}"),
+    }
+}
+
+/// The call of a `call` line.
+fn call(input: &str, name: &str, asked: &str, room: &str, packed: &str, output: &str) -> Call {
+    let packed: u64 = packed.parse().expect("a packed answer");
+    let expected = match output.strip_prefix('=') {
+        Some(hex) => Ok(Success { item: packed / 256, bytes: unhex(hex) }),
+        None => Err(Refusal::new((packed % 256) as u8, packed / 256)),
+    };
+    let room = room.parse().expect("a number of lent bytes");
+    Call { input: input.to_string(), entry: entry(name, asked), room, expected }
+}
+
+/// The call of a `listing` line, with more room than it needs.
+fn listing(input: &str, hex: &str) -> Call {
+    let bytes = unhex(hex);
+    let expected = Ok(Success { item: bytes.len() as u64, bytes });
+    Call { input: input.to_string(), entry: Entry::Listing, room: 7_000, expected }
+}

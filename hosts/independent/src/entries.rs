@@ -1,0 +1,94 @@
+//! The entries: what each answers, and what it writes at the front of the lent bytes.
+
+use crate::ownership::judge_sheet;
+use crate::repair::{boundary_sides, repair};
+use crate::{listing, reading, writing, Refusal};
+
+/// One of the entries called from outside.
+#[derive(Clone, Copy, PartialEq, Eq, Debug)]
+pub enum Entry {
+    /// The numbers entry: a sheet's numbers form.
+    Numbers,
+    /// The writer: a sheet's bytes from its numbers form.
+    Write,
+    /// The set entry: each triangle's owners before repair.
+    OwnerSets,
+    /// The owner entry: each triangle's number after repair.
+    Owners,
+    /// The boundary entry, asked for the polygon of this number.
+    Boundary(u32),
+    /// The printed listing, which answers no refusal but 40.
+    Listing,
+}
+
+/// What an entry would write if enough bytes were lent, and the item of its success.
+#[derive(Clone, PartialEq, Eq, Debug)]
+pub struct Success {
+    /// The number of triangles, of sides, or of bytes.
+    pub item: u64,
+    /// The bytes written at the front of the lent ones.
+    pub bytes: Vec<u8>,
+}
+
+/// The packed answer, item × 256 + code, with `room` lent bytes; and the bytes written at their front, None on
+/// refusal.
+pub fn answer(entry: Entry, input: &[u8], room: usize) -> (u64, Option<Vec<u8>>) {
+    match fit(whole(entry, input), room) {
+        Ok(success) => (success.item * 256, Some(success.bytes)),
+        Err(refusal) => (packed(refusal), None),
+    }
+}
+
+/// A refusal's packed answer.
+pub fn packed(refusal: Refusal) -> u64 {
+    refusal.item * 256 + u64::from(refusal.code)
+}
+
+/// The answer with `room` lent bytes. 40 is every entry's last refusal.
+pub fn fit(answer: Result<Success, Refusal>, room: usize) -> Result<Success, Refusal> {
+    match answer {
+        Ok(success) if success.bytes.len() > room => Err(Refusal::new(40, 0)),
+        other => other,
+    }
+}
+
+/// The answer if enough bytes are lent.
+pub fn whole(entry: Entry, input: &[u8]) -> Result<Success, Refusal> {
+    match entry {
+        Entry::Numbers => reading::read(input).map(|sheet| counted(writing::numbers(&sheet))),
+        Entry::Write => writing::take_numbers(input).map(|sheet| counted(writing::write(&sheet))),
+        Entry::OwnerSets => owner_sets(input),
+        Entry::Owners => owners(input),
+        Entry::Boundary(asked) => boundary(input, asked),
+        Entry::Listing => Ok(counted(listing::listing(input).into_bytes())),
+    }
+}
+
+/// A success whose item is the number of bytes.
+fn counted(bytes: Vec<u8>) -> Success {
+    Success { item: bytes.len() as u64, bytes }
+}
+
+fn owner_sets(input: &[u8]) -> Result<Success, Refusal> {
+    let owners = judge_sheet(input)?.owners;
+    let bytes = owners.iter().flat_map(|set| set.to_le_bytes()).collect();
+    Ok(Success { item: owners.len() as u64, bytes })
+}
+
+fn owners(input: &[u8]) -> Result<Success, Refusal> {
+    let judged = judge_sheet(input)?;
+    Ok(counted(repair(&judged.table, &judged.owners)?))
+}
+
+/// After 20 come 41 and 30.
+fn boundary(input: &[u8], asked: u32) -> Result<Success, Refusal> {
+    let judged = judge_sheet(input)?;
+    if asked == 0 || asked as usize > judged.sheet.polygons.len() {
+        return Err(Refusal::new(41, 0));
+    }
+    let repaired = repair(&judged.table, &judged.owners)?;
+    let sides = boundary_sides(&judged.table, &repaired, asked as u8);
+    let numbers = sides.iter().flat_map(|(u, v)| [u.x, u.y, v.x, v.y]);
+    let bytes = numbers.flat_map(|number| (number as i32).to_le_bytes()).collect();
+    Ok(Success { item: sides.len() as u64, bytes })
+}

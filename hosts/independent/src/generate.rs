@@ -1,0 +1,171 @@
+//! Test inputs, valid and damaged. Each seed gives one input, always the same.
+
+mod damage;
+mod dice;
+mod draft;
+mod large;
+mod limit;
+mod mesh;
+mod numbers;
+mod polygons;
+mod spoil;
+
+use crate::{Member, Sheet, Triangle};
+use dice::Dice;
+use draft::Draft;
+
+/// The input for this seed: bytes that are, or nearly are, a sheet in WKB.
+pub fn generate(seed: u64) -> Vec<u8> {
+    let mut dice = Dice::new(seed);
+    match dice.below(100) {
+        0..=54 => sound(&mut dice),
+        55..=67 => not_carried(&mut dice),
+        68..=76 => broken_table(&mut dice),
+        77..=93 => damaged(&mut dice),
+        94..=98 => at_a_limit(&mut dice),
+        _ => damage::noise(&mut dice),
+    }
+}
+
+/// The writer's input for this seed: the numbers form of a generated sheet, valid or damaged.
+pub fn generate_numbers(seed: u64) -> Vec<u8> {
+    numbers::generate(&mut Dice::new(seed ^ 0x6e75_6d62_6572_7321))
+}
+
+/// One of the largest sheets: 1,024 triangles, 64 polygons, 4,096 points.
+pub fn largest(seed: u64) -> Vec<u8> {
+    large::largest(&mut Dice::new(seed))
+}
+
+/// A clean sheet of so many triangles, a power of 2 from 2 to 1,024, and a polygon for each 16 of them.
+pub fn sized(seed: u64, triangles: usize) -> Vec<u8> {
+    large::sized(&mut Dice::new(seed), triangles)
+}
+
+/// A sheet whose edges are cut into as many pieces as can be.
+pub fn hostile(seed: u64) -> Vec<u8> {
+    large::hostile(&mut Dice::new(seed))
+}
+
+/// A sheet whose table keeps the rules and whose members are all carried.
+fn sound_sheet(dice: &mut Dice) -> Sheet {
+    let triangles = mesh::rectangle(dice);
+    let polygons = polygons::members(dice, &triangles);
+    Sheet { triangles, polygons }
+}
+
+/// A sheet that no entry refuses before 30.
+fn sound(dice: &mut Dice) -> Vec<u8> {
+    let sheet = sound_sheet(dice);
+    Draft::of(dice, sheet).bytes(dice)
+}
+
+/// A sheet with members changed so that, mostly, one isn't carried.
+fn not_carried_sheet(dice: &mut Dice) -> Sheet {
+    let mut sheet = sound_sheet(dice);
+    for _ in 0..1 + dice.below(2) {
+        spoil::member(dice, &mut sheet);
+    }
+    sheet
+}
+
+/// A sheet of which, mostly, a member isn't carried.
+fn not_carried(dice: &mut Dice) -> Vec<u8> {
+    let sheet = not_carried_sheet(dice);
+    Draft::of(dice, sheet).bytes(dice)
+}
+
+/// A sheet with a table that breaks a rule.
+fn broken_table(dice: &mut Dice) -> Vec<u8> {
+    let mut sheet = sound_sheet(dice);
+    for _ in 0..1 + dice.below(2) {
+        spoil::table(dice, &mut sheet.triangles);
+    }
+    Draft::of(dice, sheet).bytes(dice)
+}
+
+/// A sheet's bytes with one or two damages.
+fn damaged(dice: &mut Dice) -> Vec<u8> {
+    let sheet = sound_sheet(dice);
+    let mut encoded = Draft::of(dice, sheet).encode(dice);
+    let twice = dice.chance(20);
+    damage::apply(dice, &mut encoded);
+    if twice {
+        damage::apply(dice, &mut encoded);
+    }
+    encoded.bytes
+}
+
+/// A sheet at one of the counts' limits, or one past it; now and then damaged besides.
+fn at_a_limit(dice: &mut Dice) -> Vec<u8> {
+    let sheet = sound_sheet(dice);
+    let mut draft = Draft::of(dice, sheet);
+    limit::reach(dice, &mut draft);
+    let mut encoded = draft.encode(dice);
+    if dice.chance(20) {
+        damage::apply(dice, &mut encoded);
+    }
+    encoded.bytes
+}
+
+/// The points of a member, closing points included.
+fn point_count(member: &Member) -> usize {
+    member.iter().flatten().map(Vec::len).sum()
+}
+
+/// The points of all members.
+fn sheet_points(polygons: &[Member]) -> usize {
+    polygons.iter().map(point_count).sum()
+}
+
+/// The place of the triangle with side vu, if there is one.
+fn across(triangles: &[Triangle], (u, v): crate::Side) -> Option<usize> {
+    let has = |triangle: &Triangle| crate::table::sides(triangle).contains(&(v, u));
+    triangles.iter().position(has)
+}
+
+#[cfg(test)]
+mod tests {
+    use super::*;
+    use crate::entries::{answer, Entry};
+
+    #[test]
+    fn sound_sheets_are_carried() {
+        for seed in 0..3_000 {
+            let input = sound(&mut Dice::new(seed));
+            let (packed, _) = answer(Entry::OwnerSets, &input, usize::MAX);
+            assert_eq!(packed % 256, 0, "seed {seed}: item {}", packed / 256);
+        }
+    }
+
+    #[test]
+    fn large_sheets_are_as_large_as_they_say() {
+        let sizes = |input: &[u8]| {
+            let sheet = crate::reading::read(input).unwrap();
+            assert_eq!(answer(Entry::OwnerSets, input, usize::MAX).0 % 256, 0);
+            (sheet.triangles.len(), sheet.polygons.len(), sheet_points(&sheet.polygons))
+        };
+        for seed in 0..20 {
+            assert_eq!(sizes(&largest(seed)), (1_024, 64, 4_096));
+            assert_eq!(sizes(&hostile(seed)), (1_024, 1, 4_096));
+            for power in 1..=10 {
+                let (triangles, polygons, _) = sizes(&sized(seed, 1 << power));
+                assert!(triangles == 1 << power && polygons <= triangles.div_ceil(16));
+            }
+        }
+    }
+
+    #[test]
+    fn every_code_occurs() {
+        let mut codes = std::collections::BTreeSet::new();
+        for seed in 0..6_000 {
+            let input = generate(seed);
+            for entry in [Entry::Owners, Entry::Boundary(seed as u32 % 5)] {
+                codes.insert(answer(entry, &input, 20).0 % 256);
+            }
+            codes.insert(answer(Entry::Write, &generate_numbers(seed), 1_000).0 % 256);
+        }
+        let all = [0, 1, 2, 3, 4, 5, 6, 7, 8, 10, 11, 12, 20, 30, 40, 41, 42];
+        assert_eq!(codes.into_iter().collect::<Vec<u64>>(), all);
+    }
+}

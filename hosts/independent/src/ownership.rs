@@ -1,0 +1,165 @@
+//! Cutting edges at table corners, boundaries, and which set of triangles carries a member.
+//!
+//! The set is found by winding numbers. Count, for an edge and a point inside a triangle, whether the edge passes the
+//! ray from the point to the right: upward 1, downward -1, else 0 (its lower end belongs to it, its upper end not).
+//! The count of an edge is the sum over its pieces, that of vu is minus that of uv, and a triangle's sides together
+//! count 1 for a point inside it and 0 for one inside another triangle of the table. So if some set of triangles has
+//! the member's boundary, the member's edges together count 1 for a point inside a triangle of the set and 0 for one
+//! inside any other: only that one set comes into question. Whether it has the member's boundary is then compared at
+//! every ordered pair.
+
+use crate::table::{double_area, sides, Table};
+use crate::{reading, Member, Point, Refusal, Sheet, Side, Triangle};
+
+/// A sheet that was read, whose table keeps its rules and whose members are all carried.
+pub struct Judged {
+    /// The sheet in numbers.
+    pub sheet: Sheet,
+    /// Its checked table.
+    pub table: Table,
+    /// The owners of each triangle before repair, bit k - 1 standing for polygon k.
+    pub owners: Vec<u64>,
+}
+
+/// Reads a sheet, checks its table, and judges its polygons in number order: refusals 1 to 8, 10, 11, 12, 20.
+pub fn judge_sheet(bytes: &[u8]) -> Result<Judged, Refusal> {
+    let sheet = reading::read(bytes)?;
+    let table = Table::check(&sheet.triangles)?;
+    let inside = PointsInside::of(&table.triangles);
+    let mut owners = vec![0; table.triangles.len()];
+    for (place, member) in sheet.polygons.iter().enumerate() {
+        let set = judge(&table, &inside, member).ok_or(Refusal::new(20, place as u64 + 1))?;
+        for (owner, _) in owners.iter_mut().zip(set).filter(|(_, owned)| *owned) {
+            *owner |= 1 << place;
+        }
+    }
+    Ok(Judged { sheet, table, owners })
+}
+
+/// The judging of one polygon: the set of triangles with the same boundary at every ordered pair, if there is one.
+pub fn judge(table: &Table, inside: &PointsInside, member: &Member) -> Option<Vec<bool>> {
+    let mut set = Vec::with_capacity(table.triangles.len());
+    for number in inside.winding_numbers(member) {
+        set.push(match number {
+            0 => false,
+            1 => true,
+            _ => return None,
+        });
+    }
+    has_boundary(table, &set, member).then_some(set)
+}
+
+/// The edges of all rings of all polygons of a member.
+pub fn edges(member: &Member) -> impl Iterator<Item = Side> + '_ {
+    let rings = member.iter().flatten();
+    rings.flat_map(|ring| ring.windows(2).map(|edge| (edge[0], edge[1])))
+}
+
+/// A member's double area: the sum over its ring edges of px·qy - qx·py.
+pub fn member_double_area(member: &Member) -> i64 {
+    edges(member).map(|(p, q)| p.x * q.y - q.x * p.y).sum()
+}
+
+/// Calls `piece` with the pieces of the edge (p, q), cut at every table corner strictly between p and q on the
+/// straight line, from p to q. An edge of no length gives nothing. On a straight line the points' own order is the
+/// order along it, so the corners in question stand together in the ordered list.
+pub fn cut(corners: &[Point], (p, q): Side, mut piece: impl FnMut(Side)) {
+    let after = corners.partition_point(|&corner| corner <= p.min(q));
+    let until = corners.partition_point(|&corner| corner < p.max(q)).max(after);
+    let on_line = |corner: &&Point| double_area(&[p, q, **corner]) == 0;
+    let between = corners[after..until].iter().filter(on_line);
+    let mut from = p;
+    let mut step = |to: &Point| {
+        piece((from, *to));
+        from = *to;
+    };
+    if p < q {
+        between.for_each(&mut step);
+    } else {
+        between.rev().for_each(&mut step);
+    }
+    if p != q {
+        step(&q);
+    }
+}
+
+/// A boundary: it gives each ordered pair (u, v) the number of times uv is listed, less those of vu.
+#[derive(Default)]
+pub struct Boundary {
+    listed: Vec<Side>,
+}
+
+impl Boundary {
+    /// Adds the pieces of an edge.
+    pub fn add_edge(&mut self, corners: &[Point], edge: Side) {
+        cut(corners, edge, |piece| self.listed.push(piece));
+    }
+
+    /// Takes away the sides of a triangle.
+    pub fn subtract_triangle(&mut self, triangle: &Triangle) {
+        self.listed.extend(sides(triangle).map(|(u, v)| (v, u)));
+    }
+
+    /// Whether every ordered pair is given 0.
+    pub fn is_zero(self) -> bool {
+        let signed = |(u, v): Side| if u < v { (u, v, 1) } else { (v, u, -1) };
+        let mut signed: Vec<(Point, Point, i64)> = self.listed.into_iter().map(signed).collect();
+        signed.sort_unstable();
+        let mut pairs = signed.chunk_by(|one, next| (one.0, one.1) == (next.0, next.1));
+        pairs.all(|pair| pair.iter().map(|(_, _, sign)| sign).sum::<i64>() == 0)
+    }
+}
+
+/// Whether this set of triangles has the member's boundary at every ordered pair.
+fn has_boundary(table: &Table, set: &[bool], member: &Member) -> bool {
+    let mut difference = Boundary::default();
+    for edge in edges(member) {
+        difference.add_edge(&table.corners, edge);
+    }
+    for (triangle, _) in table.triangles.iter().zip(set).filter(|(_, owned)| **owned) {
+        difference.subtract_triangle(triangle);
+    }
+    difference.is_zero()
+}
+
+/// A point inside each triangle, three times as large to be whole: the sum of its corners. Ordered by y.
+pub struct PointsInside {
+    by_height: Vec<(Point, usize)>,
+}
+
+impl PointsInside {
+    /// The points inside these triangles.
+    pub fn of(triangles: &[Triangle]) -> PointsInside {
+        let centre = |[a, b, c]: &Triangle| Point { x: a.x + b.x + c.x, y: a.y + b.y + c.y };
+        let numbered = triangles.iter().enumerate();
+        let mut by_height: Vec<_> = numbered.map(|(place, triangle)| (centre(triangle), place)).collect();
+        by_height.sort_unstable_by_key(|(point, place)| (point.y, *place));
+        PointsInside { by_height }
+    }
+
+    /// How often the member's rings wind round the point inside each triangle, in table order.
+    pub fn winding_numbers(&self, member: &Member) -> Vec<i64> {
+        let mut numbers = vec![0; self.by_height.len()];
+        for (p, q) in edges(member) {
+            let (sign, low, high) = if p.y < q.y { (1, p, q) } else { (-1, q, p) };
+            for &(point, place) in self.between(low.y, high.y) {
+                numbers[place] += sign * i64::from(passes(low, high, point));
+            }
+        }
+        numbers
+    }
+
+    /// The points at or above the lower height and below the higher one.
+    fn between(&self, low: i64, high: i64) -> &[(Point, usize)] {
+        let from = self.by_height.partition_point(|(point, _)| point.y < 3 * low);
+        let to = self.by_height.partition_point(|(point, _)| point.y < 3 * high);
+        &self.by_height[from..to]
+    }
+}
+
+/// Whether the upward edge from low to high, at the height of the point (given three times as large), passes to the
+/// right of it: the point is strictly on the edge's left.
+fn passes(low: Point, high: Point, point: Point) -> bool {
+    let (x, y) = (point.x - 3 * low.x, point.y - 3 * low.y);
+    (high.x - low.x) * y - x * (high.y - low.y) > 0
+}

@@ -1,0 +1,61 @@
+//! Repair: each triangle's one number, and the boundary sides of a member after it.
+
+use crate::table::{sides, Table};
+use crate::{Refusal, Side};
+
+/// Each triangle's number after repair, in table order; 30 exactly if no triangle has an owner.
+pub fn repair(table: &Table, owners: &[u64]) -> Result<Vec<u8>, Refusal> {
+    if owners.iter().all(|set| *set == 0) {
+        return Err(Refusal::new(30, 0));
+    }
+    let settled: Vec<u8> = owners.iter().map(|set| smallest(*set)).collect();
+    let mut repaired = settled.clone();
+    for start in 0..settled.len() {
+        if repaired[start] == 0 {
+            fill(table, &settled, &mut repaired, start);
+        }
+    }
+    Ok(repaired)
+}
+
+/// The smallest owner number of a set, 0 for a gap.
+fn smallest(set: u64) -> u8 {
+    if set == 0 {
+        0
+    } else {
+        set.trailing_zeros() as u8 + 1
+    }
+}
+
+/// Gives the gap region of the triangle `start` to the largest settled number found across its sides.
+fn fill(table: &Table, settled: &[u8], repaired: &mut [u8], start: usize) {
+    let mut region = vec![start];
+    let mut seen = vec![false; settled.len()];
+    seen[start] = true;
+    let mut largest = 0;
+    let mut next = 0;
+    while next < region.len() {
+        for side in sides(&table.triangles[region[next]]) {
+            let Some(other) = table.across(side) else { continue };
+            largest = largest.max(settled[other]);
+            if settled[other] == 0 && !seen[other] {
+                seen[other] = true;
+                region.push(other);
+            }
+        }
+        next += 1;
+    }
+    for triangle in region {
+        repaired[triangle] = largest;
+    }
+}
+
+/// The boundary sides of polygon `number` after repair: each side uv of its triangles whose vu is no side of those,
+/// by triangle and then ab, bc, ca.
+pub fn boundary_sides(table: &Table, repaired: &[u8], number: u8) -> Vec<Side> {
+    let own = |place: usize| repaired[place] == number;
+    let inner = |side: Side| table.across(side).is_some_and(own);
+    let places = (0..repaired.len()).filter(|place| own(*place));
+    let all = places.flat_map(|place| sides(&table.triangles[place]));
+    all.filter(|side| !inner(*side)).collect()
+}

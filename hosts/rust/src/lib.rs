@@ -1,0 +1,191 @@
+//! Safe functions over the sheets library, which reads, checks, repairs and writes land-use sheets. Each entry of the library is proved to do what
+//! its description says, for every input; this crate only gives it ordinary Rust types.
+//!
+//! The library allocates nothing and keeps no state; any number of threads may call any function at once. A call needs 512 KiB of free stack.
+#![warn(missing_docs)]
+
+use std::fmt;
+
+extern "C" {
+    fn sheet_numbers(sheet: *const u8, sheet_len: usize, out: *mut u8, out_len: usize) -> u64;
+    fn sheet_write(numbers: *const u8, numbers_len: usize, out: *mut u8, out_len: usize) -> u64;
+    fn sheet_owner_sets(sheet: *const u8, sheet_len: usize, out: *mut u8, out_len: usize) -> u64;
+    fn sheet_owners(sheet: *const u8, sheet_len: usize, out: *mut u8, out_len: usize) -> u64;
+    fn sheet_boundary(sheet: *const u8, sheet_len: usize, polygon: u32, out: *mut u8, out_len: usize) -> u64;
+    fn sheet_listing(sheet: *const u8, sheet_len: usize, out: *mut u8, out_len: usize) -> u64;
+}
+
+/// Room that is always enough for the numbers form of a sheet.
+pub const NUMBERS_ROOM: usize = 65_800;
+/// Room that is always enough for a written sheet.
+pub const WRITE_ROOM: usize = 160_000;
+/// Room that is always enough for the owner sets of a sheet.
+pub const OWNER_SETS_ROOM: usize = 8_192;
+/// Room that is always enough for the owners of a sheet.
+pub const OWNERS_ROOM: usize = 1_024;
+/// Room that is always enough for the boundary sides of a polygon.
+pub const BOUNDARY_ROOM: usize = 49_152;
+/// Room that is always enough for the listing of a sheet.
+pub const LISTING_ROOM: usize = 6_600;
+
+/// Why a call was refused: a code, and the member, triangle or polygon that it is about, 0 for none.
+#[derive(Clone, Copy, Debug, PartialEq, Eq, Hash)]
+pub struct Refusal {
+    /// The refusal's number.
+    pub code: u8,
+    /// What it is about, counted from 1.
+    pub item: u64,
+}
+
+impl Refusal {
+    /// A sentence for the code, with the item where it has one.
+    pub fn sentence(&self) -> String {
+        let member = match self.item {
+            0 => "the sheet's own header".to_string(),
+            1 => "member 1, the triangle table".to_string(),
+            n => format!("member {n}"),
+        };
+        let item = self.item;
+        match self.code {
+            1 => format!("the bytes end too early for the next field of {member}"),
+            2 => format!("a byte order in {member} is neither 0 nor 1"),
+            3 => format!("a type in {member} isn't allowed at its place"),
+            4 => format!("a count in {member} is outside the limits"),
+            5 => format!("a point in {member} isn't given in whole millimetres within 10,000,000"),
+            6 => format!("a ring in {member} doesn't end at its first point"),
+            7 => "there are bytes after the sheet".to_string(),
+            8 => format!("a collection in {member} is nested too deep"),
+            10 => format!("triangle {item} has no area above 0"),
+            11 => format!("triangle {item} has a side of an earlier triangle"),
+            12 => "the triangles don't make up the frame".to_string(),
+            20 => format!("no set of triangles carries polygon {item}"),
+            30 => "repair can't be done, since no triangle has an owner".to_string(),
+            40 => "the answer is longer than the lent bytes".to_string(),
+            41 => "the polygon that is asked for isn't on the sheet".to_string(),
+            42 => "the numbers don't make up a sheet within the limits".to_string(),
+            code => format!("the library has no refusal {code}"),
+        }
+    }
+}
+
+impl fmt::Display for Refusal {
+    fn fmt(&self, f: &mut fmt::Formatter<'_>) -> fmt::Result {
+        write!(f, "{} (code {}, item {})", self.sentence(), self.code, self.item)
+    }
+}
+
+impl std::error::Error for Refusal {}
+
+/// Calls an entry with lent bytes, and answers the item with them.
+fn call(lent: &mut [u8], entry: impl FnOnce(*mut u8, usize) -> u64) -> Result<u64, Refusal> {
+    let answer = entry(lent.as_mut_ptr(), lent.len());
+    match (answer & 255) as u8 {
+        0 => Ok(answer >> 8),
+        code => Err(Refusal { code, item: answer >> 8 }),
+    }
+}
+
+/// The entries on bytes as they stand: the answer is written over the front of the lent bytes, whose others keep their values; the item is answered.
+/// A refusal changes none of them.
+pub mod lent {
+    use super::*;
+
+    /// The numbers form of a sheet; the item is its bytes.
+    pub fn numbers(sheet: &[u8], out: &mut [u8]) -> Result<u64, Refusal> {
+        call(out, |p, n| unsafe { sheet_numbers(sheet.as_ptr(), sheet.len(), p, n) })
+    }
+    /// The bytes of the sheet that a numbers form makes up; the item is their number.
+    pub fn write(numbers: &[u8], out: &mut [u8]) -> Result<u64, Refusal> {
+        call(out, |p, n| unsafe { sheet_write(numbers.as_ptr(), numbers.len(), p, n) })
+    }
+    /// The owners of each triangle before repair, 8 bytes each; the item is the triangles.
+    pub fn owner_sets(sheet: &[u8], out: &mut [u8]) -> Result<u64, Refusal> {
+        call(out, |p, n| unsafe { sheet_owner_sets(sheet.as_ptr(), sheet.len(), p, n) })
+    }
+    /// The number of each triangle after repair, a byte each; the item is the triangles.
+    pub fn owners(sheet: &[u8], out: &mut [u8]) -> Result<u64, Refusal> {
+        call(out, |p, n| unsafe { sheet_owners(sheet.as_ptr(), sheet.len(), p, n) })
+    }
+    /// The boundary sides of a polygon after repair, 16 bytes each; the item is the sides.
+    pub fn boundary(sheet: &[u8], polygon: u32, out: &mut [u8]) -> Result<u64, Refusal> {
+        call(out, |p, n| unsafe { sheet_boundary(sheet.as_ptr(), sheet.len(), polygon, p, n) })
+    }
+    /// The listing; the item is its bytes.
+    pub fn listing(sheet: &[u8], out: &mut [u8]) -> Result<u64, Refusal> {
+        call(out, |p, n| unsafe { sheet_listing(sheet.as_ptr(), sheet.len(), p, n) })
+    }
+}
+
+fn words(bytes: &[u8]) -> Vec<i32> {
+    bytes.chunks_exact(4).map(|b| i32::from_le_bytes(b.try_into().unwrap())).collect()
+}
+
+/// The sheet in numbers: the triangle count and six numbers each, the polygon count, then for each its parts, rings and points, every count before
+/// what it counts, rings closed.
+pub fn numbers(sheet: &[u8]) -> Result<Vec<i32>, Refusal> {
+    let mut out = vec![0; NUMBERS_ROOM];
+    let bytes = lent::numbers(sheet, &mut out)? as usize;
+    Ok(words(&out[..bytes]))
+}
+
+/// The bytes of the sheet that the numbers make up, in one normal form.
+pub fn write(numbers: &[i32]) -> Result<Vec<u8>, Refusal> {
+    let given: Vec<u8> = numbers.iter().flat_map(|n| n.to_le_bytes()).collect();
+    let mut out = vec![0; WRITE_ROOM];
+    let bytes = lent::write(&given, &mut out)? as usize;
+    out.truncate(bytes);
+    Ok(out)
+}
+
+/// The owners of each triangle before repair: bit k - 1 stands for polygon k.
+pub fn owner_sets(sheet: &[u8]) -> Result<Vec<u64>, Refusal> {
+    let mut out = vec![0; OWNER_SETS_ROOM];
+    let triangles = lent::owner_sets(sheet, &mut out)? as usize;
+    Ok(out[..8 * triangles].chunks_exact(8).map(|b| u64::from_le_bytes(b.try_into().unwrap())).collect())
+}
+
+/// The number of each triangle after repair.
+pub fn owners(sheet: &[u8]) -> Result<Vec<u8>, Refusal> {
+    let mut out = vec![0; OWNERS_ROOM];
+    let triangles = lent::owners(sheet, &mut out)? as usize;
+    out.truncate(triangles);
+    Ok(out)
+}
+
+/// A point, x and y in millimetres.
+pub type Point = (i32, i32);
+
+/// The boundary sides of a polygon after repair, each from one point to the other.
+pub fn boundary(sheet: &[u8], polygon: u32) -> Result<Vec<(Point, Point)>, Refusal> {
+    let mut out = vec![0; BOUNDARY_ROOM];
+    let sides = lent::boundary(sheet, polygon, &mut out)? as usize;
+    Ok(words(&out[..16 * sides]).chunks_exact(4).map(|s| ((s[0], s[1]), (s[2], s[3]))).collect())
+}
+
+/// The printed listing; a refused sheet has one, too.
+pub fn listing(sheet: &[u8]) -> String {
+    let mut out = vec![0; LISTING_ROOM];
+    let bytes = lent::listing(sheet, &mut out).expect("the room is enough for every listing") as usize;
+    out.truncate(bytes);
+    String::from_utf8(out).expect("a listing is ASCII")
+}
+
+/// What a sheet is found to be.
+#[derive(Clone, Copy, Debug, PartialEq, Eq)]
+pub enum Verdict {
+    /// Every triangle has exactly one owner.
+    Clean,
+    /// There are gaps or overlaps.
+    Repair,
+    /// The sheet was refused before repair.
+    Refused(Refusal),
+}
+
+/// The verdict on a sheet.
+pub fn verdict(sheet: &[u8]) -> Verdict {
+    match owner_sets(sheet) {
+        Err(refusal) => Verdict::Refused(refusal),
+        Ok(sets) if sets.iter().all(|set| set.count_ones() == 1) => Verdict::Clean,
+        Ok(_) => Verdict::Repair,
+    }
+}

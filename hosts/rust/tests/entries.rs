@@ -1,0 +1,55 @@
+//! The safe functions on the example sheets, whose listings are stored beside them.
+use sheets::{boundary, lent, listing, numbers, owner_sets, owners, verdict, write, Refusal, Verdict};
+
+fn example(name: &str) -> Vec<u8> {
+    std::fs::read(format!("{}/../../examples/{name}", env!("CARGO_MANIFEST_DIR"))).unwrap()
+}
+
+#[test]
+fn the_strip_sheet_is_read_and_written_back() {
+    let sheet = example("strip.wkb");
+    let numbers = numbers(&sheet).unwrap();
+    assert_eq!((numbers[0], &numbers[1..7], numbers[49]), (8, &[0, 0, 2, 0, 2, 4][..], 2));
+    assert_eq!(write(&numbers).unwrap(), sheet);
+}
+
+#[test]
+fn the_strip_sheet_has_gaps_and_overlaps_and_is_repaired() {
+    let sheet = example("strip.wkb");
+    assert_eq!(owner_sets(&sheet).unwrap(), [1, 1, 3, 3, 2, 2, 0, 0]);
+    assert_eq!(owners(&sheet).unwrap(), [1, 1, 1, 1, 2, 2, 2, 2]);
+    let sides = boundary(&sheet, 1).unwrap();
+    assert_eq!(sides, [((0, 0), (2, 0)), ((2, 4), (0, 4)), ((0, 4), (0, 0)), ((2, 0), (4, 0)), ((4, 0), (4, 4)), ((4, 4), (2, 4))]);
+    assert_eq!(verdict(&sheet), Verdict::Repair);
+    assert_eq!(listing(&sheet).into_bytes(), example("strip.txt"));
+}
+
+#[test]
+fn verdicts_are_those_of_the_listings() {
+    assert_eq!(verdict(&example("clean.wkb")), Verdict::Clean);
+    assert_eq!(verdict(&example("not-carried.wkb")), Verdict::Refused(Refusal { code: 20, item: 2 }));
+    assert_eq!(verdict(&[]), Verdict::Refused(Refusal { code: 1, item: 0 }));
+}
+
+#[test]
+fn each_refusal_says_what_it_is_about() {
+    let sheet = example("no-polygons.wkb");
+    assert_eq!(owners(&sheet), Err(Refusal { code: 30, item: 0 }));
+    assert_eq!(boundary(&sheet, 1), Err(Refusal { code: 41, item: 0 }));
+    assert_eq!(write(&[2]), Err(Refusal { code: 42, item: 0 }));
+    assert_eq!(numbers(&sheet[..600]).unwrap_err().to_string(), "the bytes end too early for the next field of member 1, the triangle table (code 1, item 1)");
+    let codes = [1, 2, 3, 4, 5, 6, 7, 8, 10, 11, 12, 20, 30, 40, 41, 42];
+    let sentences: std::collections::BTreeSet<String> = codes.iter().map(|&code| Refusal { code, item: 7 }.sentence()).collect();
+    assert_eq!(sentences.len(), codes.len());
+    assert!(sentences.iter().all(|sentence| !sentence.contains("has no refusal")));
+}
+
+#[test]
+fn a_refusal_changes_no_lent_byte_and_an_answer_only_its_own() {
+    let sheet = example("strip.wkb");
+    let mut lent = [9; 10];
+    assert_eq!(lent::owners(&sheet, &mut lent[..7]), Err(Refusal { code: 40, item: 0 }));
+    assert_eq!(lent, [9; 10]);
+    assert_eq!(lent::owners(&sheet, &mut lent), Ok(8));
+    assert_eq!(lent, [1, 1, 1, 1, 2, 2, 2, 2, 9, 9]);
+}

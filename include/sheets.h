@@ -1,0 +1,87 @@
+/* The sheets library: reading, checking, repairing and writing land-use sheets.
+
+   A sheet is a rectangle of ground cut into polygons, one land use each, with a triangulation that another program made. The library reads it
+   from the binary form of OGC Simple Features (WKB), checks the triangle table, finds which polygons own each triangle, repairs gaps and
+   overlaps, lists boundary sides, prints a listing, and writes a sheet. It never moves a corner. Every entry is proved to do what its
+   description says, for every input.
+
+   How every entry works
+     - It takes the bytes of its input and bytes lent for the answer: a pointer and a length each. A length of 0 may come with any pointer that is not
+       null. The input and the lent bytes must not overlap.
+     - It answers one number, item * 256 + code: SHEETS_CODE(answer), SHEETS_ITEM(answer).
+     - Code 0 is success: the answer's bytes stand at the front of the lent bytes, and the lent bytes past them keep their values. The item says how
+       long the answer is (in bytes, triangles or sides, as said below).
+     - Any other code is a refusal: no lent byte has changed.
+     - It always returns, reads only the input, writes only lent bytes, and allocates nothing. It keeps no state, so any number of threads may call any
+       entries at once. A thread that calls needs 512 KiB of free stack.
+
+   Refusals, in the order in which they are looked for
+      1  fewer bytes remain than the next field needs                       item: member
+      2  byte order neither 0 nor 1                                         item: member
+      3  type not allowed at this place                                     item: member
+      4  a count outside the limits                                         item: member
+      5  not a coordinate: no whole number of millimetres within 10,000,000 item: member
+      6  a ring's last point differs from its first                         item: member
+      7  bytes after the sheet                                              item: 0
+      8  a collection at depth 5                                            item: member
+     10  a triangle without area above 0                                    item: the first such triangle
+     11  a side that two triangles have                                     item: the first triangle with a side of an earlier one
+     12  the triangles don't make up the frame                              item: 0
+     20  no set of triangles carries a polygon                              item: the number of the first such polygon
+     41  the polygon that is asked for isn't on the sheet                   item: 0
+     30  repair can't be done: no triangle has an owner                     item: 0
+     42  numbers for the writer break a limit, the range or closing         item: 0
+     40  the answer is longer than the lent bytes                           item: 0
+   "member" is the place in the sheet, the table being 1 and 0 the sheet's own header. Triangles and polygons are numbered from 1, in order. */
+#ifndef SHEETS_H
+#define SHEETS_H
+
+#include <stddef.h>
+#include <stdint.h>
+
+#ifdef __cplusplus
+extern "C" {
+#endif
+
+#define SHEETS_CODE(answer) ((unsigned)((answer) & 255))
+#define SHEETS_ITEM(answer) ((uint64_t)(answer) >> 8)
+
+/* Room that is always enough for the answer. */
+#define SHEETS_NUMBERS_ROOM 65800
+#define SHEETS_WRITE_ROOM 160000
+#define SHEETS_OWNER_SETS_ROOM 8192
+#define SHEETS_OWNERS_ROOM 1024
+#define SHEETS_BOUNDARY_ROOM 49152
+#define SHEETS_LISTING_ROOM 6600
+
+/* The sheet in numbers, as little-endian int32: the triangle count and six numbers for each triangle; the polygon count, and for each polygon the
+   count of its parts, for each part the count of its rings, for each ring the count of its points and two numbers for each point, the closing
+   point included. Item: bytes. Refusals: 1 to 8, 40. */
+uint64_t sheet_numbers(const uint8_t *sheet, size_t sheet_len, uint8_t *out, size_t out_len);
+
+/* The bytes of the sheet that the numbers make up, in one normal form: little-endian, a Polygon for a member with one part, else a MultiPolygon.
+   Reading them gives the same numbers back. Item: bytes. Refusals: 42, 40. */
+uint64_t sheet_write(const uint8_t *numbers, size_t numbers_len, uint8_t *out, size_t out_len);
+
+/* The owners of each triangle before repair, in table order: a little-endian uint64 each, whose bit k-1 stands for polygon k. No bit: a gap; more
+   than one: an overlap. Item: triangles. Refusals: 1 to 8, 10, 11, 12, 20, 40. */
+uint64_t sheet_owner_sets(const uint8_t *sheet, size_t sheet_len, uint8_t *out, size_t out_len);
+
+/* The number of the one polygon that owns each triangle after repair, in table order, one byte each. Item: triangles. Refusals: 1 to 8, 10, 11, 12,
+   20, 30, 40. */
+uint64_t sheet_owners(const uint8_t *sheet, size_t sheet_len, uint8_t *out, size_t out_len);
+
+/* The boundary sides of a polygon after repair: each side from u to v of its triangles whose reverse is no side of those, as ux, uy, vx, vy in
+   little-endian int32, by triangle and then ab, bc, ca. A polygon that owns nothing has none. Item: sides. Refusals: 1 to 8, 10, 11, 12, 20,
+   41, 30, 40. */
+uint64_t sheet_boundary(const uint8_t *sheet, size_t sheet_len, uint32_t polygon, uint8_t *out, size_t out_len);
+
+/* The printed listing as ASCII text: the sheet, its polygons with their double areas in square millimetres, gaps, overlaps, the verdict, what each
+   polygon owns after repair. A refused sheet has a listing too: `refused` code item. Item: bytes. Refusal: 40. */
+uint64_t sheet_listing(const uint8_t *sheet, size_t sheet_len, uint8_t *out, size_t out_len);
+
+#ifdef __cplusplus
+}
+#endif
+
+#endif
