@@ -6,12 +6,31 @@ ghost use Rattle.outcomes.specs.Entries.{sheetNumbers, sheetWrite, sheetOwnerSe
 use owner_sets::Owning;
 use sheet::Ending;
 
+// Room for the numbers of the longest sheet, for the sides of the largest table, and for its owner sets.
+fn number_list() -> [u32; 16450]
+    ensures { λ r. ⌜ 16450 ≡ length r ⌝ }
+{
+    [0; 16450]
+}
+
+fn side_list() -> [usize; 3072]
+    ensures { λ r. ⌜ 3072 ≡ length r ⌝ }
+{
+    [0; 3072]
+}
+
+fn set_list() -> [u64; 1024]
+    ensures { λ r. ⌜ 1024 ≡ length r ⌝ }
+{
+    [0; 1024]
+}
+
 // The numbers of a sheet: its numbers form as little-endian i32; the item is the number of bytes.
 #[no_mangle]
 pub extern "C" fn sheet_numbers(sheet: &[u8], out: &mut [u8]) -> u64
     ensures { λ r. ⌜ Answered (sheetNumbers (now (sheet .entry))) (now (out .entry)) r (now (out .exit)) ⌝ }
 {
-    let mut numbers = [0u32; 16450];
+    let mut numbers = number_list();
     let ending = sheet::read(sheet, &mut numbers);
     match ending {
         Ending::Refused(code, item) => item as u64 * 256 + code as u64,
@@ -31,25 +50,6 @@ pub extern "C" fn sheet_write(numbers: &[u8], out: &mut [u8]) -> u64
     ensures { λ r. ⌜ Answered (sheetWrite (now (numbers .entry))) (now (out .entry)) r (now (out .exit)) ⌝ }
 {
     writer::write(numbers, out)
-}
-
-// Room for the numbers of the longest sheet, for the sides of the largest table, and for its owner sets.
-fn number_list() -> [u32; 16450]
-    ensures { λ r. ⌜ 16450 ≡ length r ⌝ }
-{
-    [0; 16450]
-}
-
-fn side_list() -> [usize; 3072]
-    ensures { λ r. ⌜ 3072 ≡ length r ⌝ }
-{
-    [0; 3072]
-}
-
-fn set_list() -> [u64; 1024]
-    ensures { λ r. ⌜ 1024 ≡ length r ⌝ }
-{
-    [0; 1024]
 }
 
 // The owners of each triangle before repair, in table order, as a little-endian u64 whose bit k-1 stands for polygon k; the item is the
