@@ -13,26 +13,11 @@
        long the answer is (in bytes, triangles or sides, as said below).
      - Any other code is a refusal: no lent byte has changed.
      - It always returns, reads only the input, writes only lent bytes, and allocates nothing. It keeps no state, so any number of threads may call any
-       entries at once. A thread that calls needs 512 KiB of free stack.
+       entries at once. A thread that calls needs 512 KiB of free stack, SHEETS_STACK.
 
-   Refusals, in the order in which they are looked for
-      1  fewer bytes remain than the next field needs                       item: member
-      2  byte order neither 0 nor 1                                         item: member
-      3  type not allowed at this place                                     item: member
-      4  a count outside the limits                                         item: member
-      5  not a coordinate: no whole number of millimetres within 10,000,000 item: member
-      6  a ring's last point differs from its first                         item: member
-      7  bytes after the sheet                                              item: 0
-      8  a collection at depth 5                                            item: member
-     10  a triangle without area above 0                                    item: the first such triangle
-     11  a side that two triangles have                                     item: the first triangle with a side of an earlier one
-     12  the triangles don't make up the frame                              item: 0
-     20  no set of triangles carries a polygon                              item: the number of the first such polygon
-     41  the polygon that is asked for isn't on the sheet                   item: 0
-     30  repair can't be done: no triangle has an owner                     item: 0
-     42  numbers for the writer break a limit, the range or closing         item: 0
-     40  the answer is longer than the lent bytes                           item: 0
-   "member" is the place in the sheet, the table being 1 and 0 the sheet's own header. Triangles and polygons are numbered from 1, in order. */
+   The codes are those of refusals.def, beside this file: what each item is, and a sentence for each. The item of codes 1 to 6 and 8 is a member, the place in
+   the sheet, the table being 1 and 0 the sheet's own header. Triangles and polygons are numbered from 1, in order. sheets.hpp has the entries for C++
+   with ordinary types. */
 #ifndef SHEETS_H
 #define SHEETS_H
 
@@ -42,6 +27,9 @@
 #ifdef __cplusplus
 extern "C" {
 #endif
+
+/* The version of the library, its headers, the Rust crate and the programs. */
+#define SHEETS_VERSION "0.1.0"
 
 #define SHEETS_CODE(answer) ((unsigned)((answer) & 255))
 #define SHEETS_ITEM(answer) ((uint64_t)(answer) >> 8)
@@ -53,6 +41,13 @@ extern "C" {
 #define SHEETS_OWNERS_ROOM 1024
 #define SHEETS_BOUNDARY_ROOM 49152
 #define SHEETS_LISTING_ROOM 6600
+
+/* Free stack that a calling thread needs, in bytes. */
+#define SHEETS_STACK 524288
+
+/* So many bytes of a file are always enough to read the sheet in it: what an entry answers on the first so many of longer ones is what it answers on
+   all. The longest sheet has 185,938 bytes, and no input is looked at beyond 185,978 before it is refused; docs/DECISIONS.md has the reckoning. */
+#define SHEETS_READ_CAP 196608
 
 /* The sheet in numbers, as little-endian int32: the triangle count and six numbers for each triangle; the polygon count, and for each polygon the
    count of its parts, for each part the count of its rings, for each ring the count of its points and two numbers for each point, the closing

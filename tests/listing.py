@@ -7,10 +7,8 @@ Rattle code. Reading, judging and repair are those of the programs beside this o
     python3 tests/listing.py --vectors FILE    compare with the listings of a file of vectors: 'N agree, M differ'
     python3 tests/listing.py --write           write the folder examples/: each sheet as NAME.wkb, and its listing as NAME.txt
     python3 tests/listing.py --check           are the examples as computed here, and do the figures of each listing balance? 'N passed, M failed'
-    python3 tests/listing.py --run PROGRAM     does the program, called with the example's file, print its listing? 'N passed, M failed'
 """
 import os
-import subprocess
 
 import frames
 import owning
@@ -103,17 +101,6 @@ def example_files():
             for end, content in ((".wkb", sheet), (".txt", text(sheet).encode()))]
 
 
-def run(program):
-    """The outcome of each example: does the program print its stored listing?"""
-    outcomes = []
-    for name in examples():
-        path = os.path.join(EXAMPLES, name)
-        with open(path + ".txt", "rb") as f:
-            outcomes.append(subprocess.run([program, path + ".wkb"], capture_output=True).stdout == f.read())
-        print("%s: %s" % (name, "as stored" if outcomes[-1] else "NOT as stored"))
-    return outcomes
-
-
 def differs(given, words):
     return None if text(given[:65_536]).encode() == bytes.fromhex(words[1]) else "another listing"
 
@@ -138,5 +125,4 @@ if __name__ == "__main__":
         __doc__,
         vectors=lambda file: frames.vectors(file, ["listing"], differs),
         write=lambda: frames.write(example_files()),
-        check=lambda: frames.tally(opinions()),
-        run=lambda program: frames.tally(run(program)))
+        check=lambda: frames.tally(opinions()))

@@ -1,101 +1,537 @@
 #!/usr/bin/env python3
-"""The C++ checker and the Rust gate beside each other: the same verdicts, the same exit statuses, the stored listings.
+"""The C++ checker and the Rust gate: the verdict, listing and status of each sheet are those of the independent programs beside this one, in both.
 
-    python3 tests/programs.py CHECKER GATE FOLDER    'N passed, M failed'; FOLDER has sheets of every kind
+What they do with files that are no sheets, with names of any bytes, with long files, and where memory, disk or patience end, is tried with them.
+
+    python3 tests/programs.py CHECKER GATE FOLDER             'N passed, M failed'; FOLDER has 500 sheets of every kind and 16 of the largest
+    python3 tests/programs.py --sheets CHECKER GATE FOLDER    the same of the verdicts and listings alone, on whatever sheets FOLDER has
 
 CHECKER and GATE are commands, with an emulator before them where one is needed.
 """
+import contextlib
 import glob
 import json
+import multiprocessing
 import os
+import pty
+import random
 import re
+import resource
+import select
+import signal
+import socket
 import subprocess
 import sys
 import tempfile
+import time
+import unicodedata
 
 import frames
+import listing
 from listing import EXAMPLES
+from owning import STRIP, grid
+from reading import POLYGON, closed, collection, geometry, multipolygon, of, polygon, rectangle, table, triangle, u32
 
-# What both print for a file, behind its name.
-VERDICT = re.compile(r"(clean|repair|refused \d+ \d+|could not be read)$")
+ROOT = os.path.dirname(EXAMPLES)
+READ_CAP = 196_608
+TABLE_OF_1024 = 78_866  # a sheet with so many triangles has at least so many bytes
 
-
-def run(command, *words, given=b""):
-    """The exit status and the lines that are printed."""
-    done = subprocess.run(command.split() + list(words), input=given, capture_output=True)
-    return done.returncode, done.stdout.decode().splitlines()
-
-
-def status(lines):
-    """The exit status that verdict lines ask for: the highest of them."""
-    ranks = {"clean": 0, "repair": 1, "refused": 2, "could": 3}
-    return max(ranks[line.split(": ")[1].split()[0]] for line in lines)
+# ---------------------------------------------------------------------------------------------------------------- what is expected
 
 
-def counted(lines):
+def refusals():
+    """What the item of each code is, and its sentence."""
+    with open(os.path.join(ROOT, "include", "refusals.def"), encoding="ascii") as f:
+        return {int(code): (item, sentence) for code, item, sentence in re.findall(r'^SHEETS_REFUSAL\((\d+), (\w+), "(.*)"\)$', f.read(), re.M)}
+
+
+def refused(code, item):
+    """A refusal as both programs print it."""
+    kind, sentence = refusals()[code]
+    member = {0: "the sheet's own header", 1: "member 1, the triangle table"}.get(item, "member %d" % item)
+    named = {"TRIANGLE": "triangle %d" % item, "POLYGON": "polygon %d" % item}.get(kind, member)
+    return "refused %d %d: %s" % (code, item, sentence.replace("{}", named))
+
+
+def verdict(text):
+    """The verdict that a listing tells."""
+    lines = text.splitlines()
+    if lines[0].startswith("refused"):
+        return refused(*map(int, lines[0].split()[1:]))
+    return "clean" if "verdict clean" in lines else "repair"
+
+
+def shown(name):
+    """A file's name as both programs print it."""
+    text = ""
+    for c in os.fsdecode(name):
+        hidden = unicodedata.category(c) in ("Cc", "Cs", "Zl", "Zp") or unicodedata.bidirectional(c) in (
+            "LRE", "RLE", "LRO", "RLO", "PDF", "LRI", "RLI", "FSI", "PDI") or c in "\u200e\u200f\u061c"
+        text += "".join("\\x%02x" % byte for byte in os.fsencode(c)) if hidden else "\\\\" if c == "\\" else c
+    return text
+
+
+def line(name, said):
+    return "%s: %s" % (shown(name), said)
+
+
+def unread(name, why):
+    """The line of what could not be read; the reason in words, or the system's for an error's number."""
+    return line(name, "could not be read: %s" % (why if isinstance(why, str) else os.strerror(why)))
+
+
+KINDS = ("clean", "repair", "refused", "could")
+
+
+def kind(said):
+    """Which of the kinds a verdict line tells."""
+    return KINDS.index(re.search(r": (clean$|repair$|refused|could)", said)[1])
+
+
+def summary(lines, passed=0):
     """The gate's last line for these verdicts."""
-    kinds = [line.split(": ")[1].split()[0] for line in lines]
-    return "%d sheets: %d clean, %d to repair, %d refused, %d could not be read" % (
-        len(kinds), *(kinds.count(kind) for kind in ("clean", "repair", "refused", "could")))
+    counts = [list(map(kind, lines)).count(k) for k in range(4)]
+    sheets = "1 sheet" if len(lines) == 1 else "%d sheets" % len(lines)
+    return sheets + ": %d clean, %d to repair, %d refused, %d could not be read; %d passed over" % (*counts, passed)
 
 
 def as_line(answer):
-    """The verdict line that one of the gate's JSON objects stands for."""
-    said = {"refused": "refused %s %s" % (answer.get("code"), answer.get("item")), "unreadable": "could not be read"}
-    return "%s: %s" % (answer["file"], said.get(answer["verdict"], answer["verdict"]))
+    """The verdict line that one of the gate's JSON objects stands for; its name is shown already."""
+    said = {"refused": "refused %s %s: %s", "unreadable": "could not be read: %s"}.get(answer["verdict"], answer["verdict"])
+    return "%s: %s" % (answer["file"], said % tuple(answer[key] for key in ("code", "item", "reason") if key in answer))
 
 
-def same(checker, gate, files, folder=None):
-    """Both programs on the same files: are the lines verdicts, one for each file, equal, and are the statuses and the summary right?"""
-    ended, lines = run(checker, "--batch", *files)
-    gate_ended, gate_lines = run(gate, *([folder] if folder else files))
-    json_ended, objects = run(gate, "--json", *files)
-    answers = [json.loads(line) for line in objects]
-    return [
-        len(lines) == len(files) and all(line.startswith(name + ": ") and VERDICT.search(line) for line, name in zip(lines, files)),
-        gate_lines[:-1] == lines,
-        gate_lines[-1] == counted(lines),
-        ended == gate_ended == json_ended == status(lines),
-        [as_line(answer) for answer in answers[:-1]] == lines and answers[-1]["sheets"] == len(lines),
-        all(answer["reason"] for answer in answers[:-1] if answer["verdict"] in ("refused", "unreadable")),
+# ---------------------------------------------------------------------------------------------------------------- running
+
+
+def start(command, *words, **more):
+    return subprocess.Popen(command.split() + list(words), **{**dict.fromkeys(("stdin", "stdout", "stderr"), subprocess.PIPE), **more})
+
+
+def lines_of(printed):
+    """Lines as line feeds end them, and nothing else."""
+    return printed.decode(errors="backslashreplace").removesuffix("\n").split("\n") if printed else []
+
+
+def run(command, *words, given=b"", **more):
+    """The exit status, and what is printed on standard output and on standard error, as lines."""
+    with start(command, *words, **more) as program:
+        try:
+            printed = program.communicate(given, timeout=60)
+        except subprocess.TimeoutExpired:
+            program.kill()
+            return "no end", [], []
+        return program.returncode, *map(lines_of, printed)
+
+
+def equal(what, got, wanted):
+    """Is it as it should be? What is not is printed."""
+    if got != wanted:
+        print("%s:\n  got    %s\n  wanted %s" % (what, str(got)[:2000], str(wanted)[:2000]))
+    return got == wanted
+
+
+@contextlib.contextmanager
+def folder_of(files):
+    """A folder with these files in it, by name; its path as bytes."""
+    with tempfile.TemporaryDirectory() as folder:
+        folder = os.fsencode(folder)
+        for name, content in files.items():
+            path = os.path.join(folder, os.fsencode(name))
+            os.makedirs(os.path.dirname(path), exist_ok=True)
+            with open(path, "wb") as f:
+                f.write(content)
+        yield folder
+
+
+class Programs:
+    """Both programs."""
+
+    def __init__(self, *commands):
+        self.checker, self.gate = (" ".join(os.path.abspath(word) if os.path.exists(word) else word for word in command.split()) for command in commands)
+        self.batch = self.checker + " --batch"
+
+    def same(self, what, words, lines, **more):
+        """Do both print these verdict lines for the same words, the gate a summary, also as JSON, with the right status and no message?"""
+        ended = max(map(kind, lines))
+        answers = run(self.gate + " --json", *words, **more)
+        objects = [json.loads(text) for text in answers[1]]
+        sheets = dict(zip(("clean", "repair", "refused", "unreadable"), (list(map(kind, lines)).count(k) for k in range(4))))
+        return [
+            equal(what + ", checker", run(self.batch, *words, **more), (ended, lines, [])),
+            equal(what + ", gate", run(self.gate, *words, **more), (ended, lines + [summary(lines)], [])),
+            equal(what + ", gate --json", (answers[0], list(map(as_line, objects[:-1])), answers[2]), (ended, lines, [])),
+            equal(what + ", JSON summary", objects[-1:], [{"sheets": len(lines), **sheets, "passed_over": 0}]),
+        ]
+
+
+# ---------------------------------------------------------------------------------------------------------------- sheets
+
+
+def oracle(path):
+    with open(path, "rb") as f:
+        return listing.text(f.read())
+
+
+def sheets_of(programs, what, paths):
+    """Both programs on sheets, whose verdicts and listings are those of the independent program."""
+    with multiprocessing.Pool() as pool:
+        texts = pool.map(oracle, paths, chunksize=1)
+    lines = [line(path, verdict(text)) for path, text in zip(paths, texts)]
+    listed = [printed for path, text in zip(paths, texts) for printed in [shown(path) + ":", *text.splitlines()]]
+    refusals_told = [said for said in lines if kind(said) == 2]
+    outcomes = programs.same(what, paths, lines)
+    return lines, outcomes + [equal(what + ", listings", run(programs.checker, *paths), (max(map(kind, lines)), listed, refusals_told))]
+
+
+def wkb_of(folder):
+    return sorted(glob.glob(os.path.join(folder, "*.wkb")))
+
+
+def generated(programs, folder):
+    """The folder's sheets, named one by one and as a folder; every kind of verdict and the largest sheets are among them."""
+    paths = wkb_of(folder)
+    lines, outcomes = sheets_of(programs, "generated sheets", paths)
+    largest = [path for path in paths if os.path.getsize(path) >= TABLE_OF_1024]
+    return outcomes + [
+        equal("the folder", run(programs.gate, folder), (2, lines + [summary(lines)], [])),
+        equal("kinds", {kind(said) for said in lines}, {0, 1, 2}),
+        equal("enough sheets", (len(paths) >= 500, len(largest) >= 16), (True, True)),
     ]
 
 
-def listings(checker):
-    """The checker's listing of each example, from a file and from standard input, is the stored one."""
+def examples(programs):
+    """The stored listings of the examples, from a file and from standard input."""
     outcomes = []
-    for path in sorted(glob.glob(os.path.join(EXAMPLES, "*.wkb"))):
+    for path in wkb_of(EXAMPLES):
         with open(path, "rb") as f, open(path[:-4] + ".txt", encoding="ascii") as g:
-            sheet, stored = f.read(), g.read().splitlines()
-        ended = 2 if stored[0].startswith("refused") else 0 if "verdict clean" in stored else 1
-        outcomes += [run(checker, path) == (ended, stored), run(checker, given=sheet) == (ended, stored), run(checker, "-", given=sheet) == (ended, stored)]
+            sheet, stored = f.read(), g.read()
+        said = verdict(stored)
+        ended = KINDS.index(said.split()[0])
+        for name, words in ((path, [path]), ("-", []), ("-", ["-"])):
+            wanted = ended, stored.splitlines(), [line(name, said)] * (ended == 2)
+            outcomes.append(equal("listing of " + path, run(programs.checker, *words, given=sheet), wanted))
+        outcomes += programs.same("example " + path, [path], [line(path, said)])
+        outcomes += programs.same("example %s on standard input" % path, ["-"], [line("-", said)], given=sheet)
     return outcomes
 
 
-def usage(checker, gate):
-    """Help is printed with status 0; an unknown option, and no sheet at all, end with status 3 and no verdict. A folder is no file to the checker."""
+def sentences(programs):
+    """Refusals in words, written down here."""
+    left = of([((0, 0), (2, 0), (2, 4)), ((0, 0), (2, 4), (0, 4))])
+    wanted = [
+        (b"", "refused 1 0: the bytes end too early for the next field of the sheet's own header"),
+        (collection(b"\2"), "refused 2 1: a byte order in member 1, the triangle table is neither 0 nor 1"),
+        (collection(left, polygon(rectangle(0, 2)), geometry(9, [])), "refused 3 3: a type in member 3 isn't allowed at its place"),
+        (collection(table()), "refused 4 1: a count in member 1, the triangle table is outside the limits"),
+        (collection(left, polygon([(0.5, 0)] * 4)), "refused 5 2: a point in member 2 isn't given in whole millimetres within 10,000,000"),
+        (collection(left, polygon([(0, 0)] * 3 + [(1, 1)])), "refused 6 2: a ring in member 2 doesn't end at its first point"),
+        (collection(left) + b"\0", "refused 7 0: there are bytes after the sheet"),
+        (collection(left, collection(collection(collection(collection())))), "refused 8 2: a collection in member 2 is nested too deep"),
+        (collection(table(triangle((0, 0), (2, 0), (2, 4)), triangle((0, 0), (0, 4), (2, 4)))), "refused 10 2: triangle 2 has no area above 0"),
+        (collection(of([((0, 0), (2, 0), (2, 4))] * 2)), "refused 11 2: triangle 2 has a side of an earlier triangle"),
+        (collection(of([((0, 0), (2, 0), (2, 4)), ((9, 9), (11, 9), (11, 13))])), "refused 12 0: the triangles don't make up the frame"),
+        (collection(STRIP, polygon(rectangle(0, 4)), polygon(rectangle(0, 3))), "refused 20 2: no set of triangles carries polygon 2"),
+    ]
+    with folder_of({"%02d.wkb" % k: sheet for k, (sheet, _) in enumerate(wanted)}) as folder:
+        paths = [os.path.join(folder, b"%02d.wkb" % k) for k in range(len(wanted))]
+        return programs.same("refusals in words", paths, [line(path, said) for path, (_, said) in zip(paths, wanted)])
+
+
+# ---------------------------------------------------------------------------------------------------------------- long files
+
+
+def within(t):
+    """A triangle's ring as a polygon within as many containers as can be below a member."""
+    return collection(collection(multipolygon(polygon(closed(*t)))))
+
+
+def longest(members):
+    """The table and the members of a sheet of 1,024 triangles, each a polygon of its own, shared out to so many members."""
+    triangles = grid(range(0, 66, 2), range(0, 34, 2))
+    parts = [triangles[k * 1024 // members:(k + 1) * 1024 // members] for k in range(members)]
+    return [of(triangles), *[collection(*map(within, part)) for part in parts]]
+
+
+def long_files(programs):
+    """The longest sheet, and the input that is looked at farthest before it is refused, with and without bytes behind them; each is answered as the
+    independent reader answers all of its bytes."""
+    sheet = collection(*longest(64))
+    start_of_ring = geometry(POLYGON, [b""])[:9] + u32(4)
+    farthest = collection(*longest(63), collection(collection(collection(multipolygon(start_of_ring)))))
+    assert (len(sheet), len(farthest)) == (185_938, 185_978)
+    files = {}
+    for size in (0, 1, READ_CAP - len(sheet), READ_CAP - len(sheet) + 1, 300_000):
+        files["sheet and %06d more" % size] = (sheet + bytes(size), "clean" if size == 0 else refused(7, 0))
+        files["fault and %06d more" % size] = (farthest + b"\1" * size, refused(4, 65))
+    files["fault cut"] = (farthest[:-1], refused(1, 65))
+    files["sheet cut"] = (sheet[:-1], refused(1, 65))
+    files["noise"] = (b"\0" * 1_000_000, refused(3, 0))
+    with folder_of({name: content for name, (content, _) in files.items()}) as folder:
+        paths = [os.path.join(folder, name.encode()) for name in files]
+        lines = [line(path, said) for path, (_, said) in zip(paths, files.values())]
+        outcomes = [equal(name, verdict(listing.text(content)), said) for name, (content, said) in files.items()]
+        outcomes += programs.same("long files", paths, lines)
+        for name in ("sheet and 300000 more", "fault and 300000 more"):
+            content, said = files[name]
+            outcomes += programs.same(name + ", on standard input", ["-"], [line("-", said)], given=content[:READ_CAP + 1000])
+        os.truncate(paths[1], 1 << 40)  # a file of a terabyte, most of it never written
+        return outcomes + programs.same("a terabyte", paths[1:2], [line(paths[1], refused(4, 65))])
+
+
+# ---------------------------------------------------------------------------------------------------------------- names
+
+
+def names():
+    """Names with every byte that a name can have, with characters at the edges of what is hidden, with ill-formed UTF-8, and by chance."""
+    dice = random.Random(14)
+    edges = [0x7f, 0x80, 0x85, 0x9f, 0xa0, 0x61b, 0x61c, 0x61d, 0x7ff, 0x800, *range(0x200a, 0x2010), *range(0x2027, 0x2030), *range(0x2065, 0x206b),
+             0xd7ff, 0xe000, 0xfeff, 0xffff, 0x10000, 0x1f600, 0x10ffff]
+    bad = [b"\xc0\x80", b"\xc1\xbf", b"\xe0\x9f\xbf", b"\xed\xa0\x80", b"\xed\xbf\xbf", b"\xf0\x8f\xbf\xbf", b"\xf4\x90\x80\x80", b"\xf5\x80\x80\x80",
+           b"\xe2\x82", b"\xf0\x9f\x98", b"\xe2\x82\xe2\x82\xac", b"\xf0\x9f\xe2\x82\xac", b"\xe2\x28\xa1", b"\xc3"]
+    chance = [bytes(dice.choice(b"\\ab\x1b\n\x80\xbf\xc2\xe2\x80\xa8\xae\xed\xf0\x9f\x98\x80\"'") for _ in range(dice.randrange(1, 40))) for _ in range(200)]
+    every = [bytes([byte]) for byte in range(1, 256) if byte != ord("/")]
+    return {b"%03d" % k + name + b".wkb" for k, name in enumerate(every + [chr(c).encode() for c in edges] + bad + chance)} | {b"".join(every)[:255]}
+
+
+def any_names(programs):
+    """Files of all these names, one by one and as a folder; no control byte but the line feed is printed."""
     outcomes = []
-    for program in (checker, gate):
-        ended, lines = run(program, "--help")
-        outcomes += [ended == 0 and lines[0].startswith("usage: "), run(program, "--nonsense") == (3, [])]
-    with tempfile.TemporaryDirectory() as empty:
-        outcomes += [run(gate, empty) == (3, []), run(gate) == (3, []), run(checker, "--batch", empty) == (3, [empty + ": could not be read"])]
+    with folder_of(dict.fromkeys(names(), b"")) as folder:
+        paths = [os.path.join(folder, name) for name in sorted(names())]
+        outcomes += programs.same("names", paths, [line(path, refused(1, 0)) for path in paths])
+        taken, passed = ([path for path in paths if path.endswith(b".wkb") == is_sheet] for is_sheet in (True, False))
+        lines = [line(path, refused(1, 0)) for path in taken]
+        messages = ["gate: " + line(path, "passed over: its name doesn't end in .wkb") for path in passed]
+        outcomes.append(equal("names in a folder", run(programs.gate, folder), (2, lines + [summary(lines, len(passed))], messages)))
+        for command in (programs.checker, programs.batch, programs.gate, programs.gate + " --json"):
+            with start(command, *paths) as program:
+                printed = b"".join(program.communicate())
+            outcomes.append(equal("bytes of " + command, sorted({byte for byte in printed if byte < 32 or byte == 127}), [10]))
+        gone = b"no\n\x1b[31m\xff\\such"
+    return outcomes + programs.same("a name that is not there", [gone], [unread(gone, 2)])
+
+
+# ---------------------------------------------------------------------------------------------------------------- files that are none
+
+
+def irregular(programs):
+    """Pipes, sockets, devices, folders, links, and paths that lead nowhere: each named with the reason, and none waited for."""
+    with folder_of({"strip.wkb": listing.examples()["strip"], "folder/x.wkb": b""}) as folder, socket.socket(socket.AF_UNIX) as listening:
+        def path(name):
+            return os.path.join(folder, name)
+        os.mkfifo(path(b"pipe"))
+        listening.bind(path(b"socket"))
+        for name, target in ((b"link", b"strip.wkb"), (b"nowhere", b"gone"), (b"loop", b"loop"), (b"link to pipe", b"pipe")):
+            os.symlink(target, path(name))
+        wanted = [
+            (path(b"pipe"), "it is a pipe"), (path(b"link to pipe"), "it is a pipe"), (path(b"socket"), "it is a socket"), (b"/dev/null", "it is a device"),
+            (b"/dev/zero", "it is a device"), (path(b"nowhere"), 2), (path(b"loop"), 40), (path(b"strip.wkb/x"), 20), (path(b"x" * 300), 36), (b"", 2)]
+        lines = [unread(name, why) for name, why in wanted] + [line(path(b"link"), "repair")]
+        outcomes = programs.same("files that are none", [name for name, _ in wanted] + [path(b"link")], lines)
+        for name in (folder, path(b"folder")):
+            lines = [unread(name, "it is a folder")]
+            outcomes.append(equal("a folder for the checker", run(programs.batch, name), (3, lines, [])))
+            outcomes.append(equal("a folder for the checker's listing", run(programs.checker, name), (3, [], lines)))
     return outcomes
+
+
+def too_deep(programs):
+    """A folder whose path is longer than the system takes could not be read; the sheets above it are checked."""
+    with folder_of({"a.wkb": b""}) as folder:
+        step = b"s" * 250
+        here = os.open(folder, os.O_RDONLY)
+        for _ in range(17):
+            os.mkdir(step, dir_fd=here)
+            below = os.open(step, os.O_RDONLY, dir_fd=here)
+            os.close(here)
+            here = below
+        os.close(here)
+        first_too_long = next(deep for deep in (os.path.join(folder, *[step] * n) for n in range(18)) if len(deep) >= 4096)
+        lines = [line(os.path.join(folder, b"a.wkb"), refused(1, 0)), unread(first_too_long, 36)]
+        return [equal("too deep", run(programs.gate, folder), (3, lines + [summary(lines)], []))]
+
+
+def folders(programs):
+    """What the gate takes from a folder and those below it, in which order, and what it passes over; --flat; folders with nothing to look at."""
+    files = ["b.wkb", "a.wkb", "a/b.wkb", "a-b.WKB", "a/c/d.Wkb", "notes.txt", "a/wkb", "a/b.wkb.bak", "x.wkb/y.wkb", "no/sheet"]
+    with folder_of(dict.fromkeys(files, b"")) as folder:
+        def path(name):
+            return os.path.join(folder, os.fsencode(name))
+        for name, target in (("a/up", ".."), ("z.wkb", "a"), ("link.wkb", "b.wkb"), ("gone.wkb", "gone"), ("gone", "nowhere")):
+            os.symlink(target, path(name))
+        os.mkfifo(path("pipe"))
+        empty = refused(1, 0)
+        said = {"a-b.WKB": empty, "a.wkb": empty, "a/b.wkb": empty, "a/c/d.Wkb": empty, "b.wkb": empty, "gone.wkb": 2, "link.wkb": empty,
+                "pipe": "it is a pipe", "x.wkb/y.wkb": empty}
+        flat = {**{name: what for name, what in said.items() if "/" not in name}, "x.wkb": "it is a folder"}
+        name, to_folder, left_out = "its name doesn't end in .wkb", "it is a link to a folder", "it is a folder, and --flat leaves those out"
+        passed = {"a/b.wkb.bak": name, "a/up": to_folder, "a/wkb": name, "gone": name, "no/sheet": name, "notes.txt": name, "z.wkb": to_folder}
+        flat_passed = {"a": left_out, "gone": name, "no": left_out, "notes.txt": name, "z.wkb": to_folder}
+        outcomes = []
+        for words, taken, over in ([], said, passed), (["--flat"], flat, flat_passed):
+            lines = [line(path(name), what) if what == empty else unread(path(name), what) for name, what in taken.items()]
+            messages = ["gate: " + line(path(name), "passed over: " + why) for name, why in over.items()]
+            got = run(programs.gate, *words, folder)
+            outcomes.append(equal("folders %s" % words, got, (3, lines + [summary(lines, len(over))], messages)))
+            ended, objects, told = run(programs.gate, "--json", *words, folder)
+            objects = [json.loads(text) for text in objects]
+            outcomes.append(equal("folders --json", (ended, list(map(as_line, objects[:-1])), told, objects[-1]["passed_over"]), (3, lines, messages, len(over))))
+        outcomes += too_deep(programs)
+        os.mkdir(path("empty"))
+        messages = ["gate: " + line(path("no/sheet"), "passed over: " + name)]
+        for here, told in (("empty", []), ("no", messages)):
+            lines = [line(path("b.wkb"), empty), unread(path(here), "there is no sheet in it, no file whose name ends in .wkb")]
+            outcomes.append(equal("nothing in it", run(programs.gate, path("b.wkb"), path(here)), (3, lines + [summary(lines, len(told))], told)))
+    return outcomes
+
+
+# ---------------------------------------------------------------------------------------------------------------- options
+
+
+def version(path, pattern):
+    """The version that a file of the repository has."""
+    with open(os.path.join(ROOT, path), encoding="ascii") as f:
+        return re.search(pattern, f.read(), re.M)[1]
+
+
+def options(programs):
+    """Help, the version, names that begin with a dash, and words that can't be followed."""
+    header, crate = version("include/sheets.h", r'^#define SHEETS_VERSION "(.*)"$'), version("hosts/rust/Cargo.toml", r'^version = "(.*)"$')
+    outcomes = [equal("version", header, crate)]
+    for name, program in (("checker", programs.checker), ("gate", programs.gate)):
+        ended, text, _ = run(program, "--help")
+        outcomes += [
+            equal("help", (ended, text[0].split()[:2]), (0, ["usage:", name])),
+            equal("-h", run(program, "-h"), (0, text, [])),
+            equal("--version", run(program, "--version"), (0, ["%s %s" % (name, header)], [])),
+            equal("stdin twice", run(program, "-", "-"), (3, [], [name + ": standard input can be named only once"])),
+        ]
+        for word in (b"--nonsense", b"-x", b"---", b"-\x1b"):
+            hint = "%s: there is no option %s: see %s --help; a file of that name is written ./%s or behind --" % (name, shown(word), name, shown(word))
+            outcomes.append(equal("no option", run(program, word, "--help"), (3, [], [hint])))
+    outcomes.append(equal("no word", run(programs.gate), (3, [], ["gate: no file and no folder is named: see gate --help"])))
+    with folder_of(dict.fromkeys(["-x", "--", "--help", "-", "y"], b"")) as folder:
+        words = ["y", "./-x", "./-", "--", "-x", "--", "--help", "-"]
+        lines = [line(word, refused(1, 0)) for word in words if word != "--"]
+        lines.insert(4, line("--", refused(1, 0)))
+        outcomes += programs.same("names with a dash", words, lines, cwd=folder)
+    return outcomes
+
+
+# ---------------------------------------------------------------------------------------------------------------- where things end
+
+
+def limited(what, most):
+    return lambda: resource.setrlimit(what, (most, most))
+
+
+def unwritable(programs, sheets):
+    """A full disk, a closed pipe, and a disk that fills up midway: a message, status 3, and what could be written is kept."""
+    outcomes = []
+    for name, command in (("checker", programs.batch), ("gate", programs.gate), ("gate", programs.gate + " --json"), ("checker", programs.checker)):
+        message = name + ": standard output could not be written: "
+        for words in (sheets, ["--help"], ["--version"]):
+            with open("/dev/full", "wb") as full:
+                outcomes.append(equal("full disk", run(command, *words, stdout=full), (3, [], [message + os.strerror(28)])))
+            reading, writing = os.pipe()
+            os.close(reading)
+            outcomes.append(equal("closed pipe", run(command, *words, stdout=writing), (3, [], [message + os.strerror(32)])))
+            os.close(writing)
+        with tempfile.NamedTemporaryFile() as kept:
+            whole = run(command, *sheets)[1]
+            room = len("\n".join(whole[:2])) + 5
+            got = run(command, *sheets, stdout=kept, restore_signals=False, preexec_fn=limited(resource.RLIMIT_FSIZE, room))
+            outcomes.append(equal("disk that fills up", got, (3, [], [message + os.strerror(27)])))
+            outcomes.append(equal("what is kept", os.pread(kept.fileno(), room + 1, 0).decode(), ("\n".join(whole) + "\n")[:room]))
+    return outcomes
+
+
+def out_of_memory(name, command, sheets):
+    """With little memory, and a little more each time: all lines, or the first ones with a message and status 3. The C library says itself where it is
+    at an end."""
+    whole = run(command, *sheets)
+    first = next(most for most in range(1 << 20, 1 << 28, 1 << 14) if run(command, "--version", preexec_fn=limited(resource.RLIMIT_AS, most))[0] == 0)
+    wrong, messages = [], set()
+    for most in range(first, first + (1 << 23), 1 << 15):
+        ended, lines, told = got = run(command, *sheets, preexec_fn=limited(resource.RLIMIT_AS, most))
+        said = told != [] and all(re.match(name + ": |Fatal glibc error: ", message) for message in told)
+        if got != whole and (ended, lines, said) != (3, whole[1][:len(lines)], True):
+            wrong.append((most, got))
+        messages.update(told)
+    return [equal("little memory", wrong, []), equal("memory ran out", name + ": out of memory" in messages, True)]
+
+
+def steady(programs):
+    """A thousand files of the longest that is read take no more memory than a few."""
+    files = {"%04d.wkb" % k: b"" for k in range(1000)}
+    with folder_of(files) as folder:
+        for name in files:
+            os.truncate(os.path.join(folder, name.encode()), READ_CAP)
+        lines = [line(os.path.join(folder, name.encode()), refused(3, 0)) for name in files]
+        return [equal("memory", run(programs.gate, folder, preexec_fn=limited(resource.RLIMIT_AS, 100 << 20)), (2, lines + [summary(lines)], []))]
+
+
+def little_stack(programs, sheets):
+    """The stack that the library needs is there whatever the limit of the first thread."""
+    lines = run(programs.batch, *sheets)[1]
+    return programs.same("little stack", sheets, lines, preexec_fn=limited(resource.RLIMIT_STACK, 1 << 17))
+
+
+def waited(program, count):
+    """So many lines of its output as they come; fewer where they don't within a while."""
+    text, end = b"", time.monotonic() + 20
+    while text.count(b"\n") < count and select.select([program.stdout], [], [], max(0, end - time.monotonic()))[0]:
+        part = os.read(program.stdout.fileno(), 1 << 16)
+        if not part:
+            break
+        text += part
+    return lines_of(text)
+
+
+def as_they_come(programs, sheets, lines):
+    """Lines come while a later sheet is waited for, and not while an earlier one is; what was printed is kept when Ctrl-C ends the program."""
+    outcomes = []
+    for command in (programs.batch, programs.gate):
+        with start(command, *sheets, "-", preexec_fn=lambda: signal.signal(signal.SIGINT, signal.SIG_DFL)) as program:
+            outcomes.append(equal("lines as they come", waited(program, len(sheets)), lines))
+            program.send_signal(signal.SIGINT)
+            outcomes.append(equal("Ctrl-C", (program.communicate(timeout=60)[0], program.returncode), (b"", -signal.SIGINT)))
+        with start(command, "-", *sheets) as program:
+            outcomes.append(equal("order", select.select([program.stdout], [], [], 0.5)[0], []))
+            program.stdin.close()
+            outcomes.append(equal("order", waited(program, 1 + len(sheets))[:1 + len(sheets)], [line("-", refused(1, 0)), *lines]))
+    return outcomes
+
+
+def progress(gate, sheet):
+    """A progress line of the gate on a terminal, where the verdicts go elsewhere."""
+    ours, theirs = pty.openpty()
+    with start(gate, "-", sheet, stderr=theirs) as program:
+        os.close(theirs)
+        time.sleep(1.2)
+        program.stdin.close()
+        program.stdout.read()
+        said = os.read(ours, 1000) if select.select([ours], [], [], 5)[0] else b""
+    os.close(ours)
+    return [equal("progress", (said[:22], said[-23:].strip()), (b"\r1 of 2 sheets checked", b"2 of 2 sheets checked"))]
 
 
 def main(checker, gate, folder):
-    files = sorted(glob.glob(os.path.join(folder, "*")))
-    stored = sorted(glob.glob(os.path.join(EXAMPLES, "*.wkb")))
-    clean = [path for path in stored if os.path.basename(path) in ("clean.wkb", "story.wkb")]
-    missing = [os.path.join(folder, "no such file"), *stored[:2]]
-    outcomes = same(checker, gate, files, folder)
-    # Every kind of verdict is among them.
-    _, lines = run(checker, "--batch", *files)
-    outcomes.append({line.split(": ")[1].split()[0] for line in lines} == {"clean", "repair", "refused"})
-    for some in (stored, clean, stored[1:2], missing):
-        outcomes += same(checker, gate, some)
-    return frames.tally(outcomes + listings(checker) + usage(checker, gate))
+    programs = Programs(checker, gate)
+    stored = wkb_of(EXAMPLES)
+    lines, outcomes = sheets_of(programs, "examples", stored)
+    outcomes += generated(programs, folder) + examples(programs) + sentences(programs) + long_files(programs)
+    outcomes += any_names(programs) + irregular(programs) + folders(programs) + options(programs)
+    outcomes += unwritable(programs, stored) + as_they_come(programs, stored, lines) + progress(programs.gate, stored[0])
+    if len(checker.split()) == 1:  # an emulator needs memory of its own
+        outcomes += out_of_memory("checker", programs.batch, stored) + out_of_memory("gate", programs.gate, stored)
+        outcomes += steady(programs) + little_stack(programs, stored)
+    return frames.tally(outcomes)
 
 
 if __name__ == "__main__":
+    if sys.argv[1:2] == ["--sheets"]:
+        *commands, where = sys.argv[2:]
+        sys.exit(frames.tally(sheets_of(Programs(*commands), "sheets", wkb_of(where))[1]))
     sys.exit(main(*sys.argv[1:]))

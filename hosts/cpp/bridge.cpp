@@ -1,8 +1,10 @@
-// Calls the entries as the frames of standard input say, for a program that has the library on the other side of a pipe.
-// A frame: u8 entry (0 numbers, 1 write, 2 owner sets, 3 owners, 4 boundary, 5 listing), u32 LE asked polygon, u32 LE input length, u32 LE room, input.
-// The answer: u64 LE packed answer, then the lent bytes after the call; lent byte i is (i * 131 + 17) % 256 before it. Bytes before and behind the lent ones
-// are watched: where a call changes one, or one of its input, the program ends with status 2. With --stack N the calls are made on a thread with N KiB of stack.
-#include <sheets.h>
+// Calls the entries, or the functions of sheets.hpp, as the frames of standard input say, for a program that has the library on the other side of a pipe.
+// A frame: u8 function (0 numbers, 1 write, 2 owner sets, 3 owners, 4 boundary, 5 listing, 6 verdict), u32 LE asked polygon, u32 LE input length, u32 LE room,
+// input. The answer: u64 LE packed answer, then the lent bytes after the entry's call; lent byte i is (i * 131 + 17) % 256 before it. Bytes before and behind the
+// lent ones are watched: where a call changes one, or one of its input, the program ends with status 2.
+// With a room of 2^32 - 1 a function of sheets.hpp is called. The answer: u64 LE packed answer, u32 LE length, its value in so many bytes, none for a refusal; a
+// verdict is one byte, 0 clean or 1 repair. With --stack N the calls are made on a thread with N KiB of stack.
+#include <sheets.hpp>
 
 #include <pthread.h>
 #include <unistd.h>
@@ -11,14 +13,16 @@
 #include <cstdio>
 #include <cstdlib>
 #include <cstring>
+#include <string>
 #include <vector>
 
 namespace {
 
-using Bytes = std::vector<std::uint8_t>;
+using sheets::Bytes;
 
 constexpr std::size_t head = 13, guard = 64, chunk = 1 << 16, most_room = 1 << 20;
 constexpr std::uint8_t watched = 0x5a;
+constexpr std::uint32_t own_room = 0xffffffff;
 
 std::uint32_t number(const std::uint8_t *at) {
     return at[0] | at[1] << 8 | at[2] << 16 | static_cast<std::uint32_t>(at[3]) << 24;
@@ -51,6 +55,11 @@ bool untouched(const std::uint8_t *at) {
     return std::memcmp(at, guards.data(), guard) == 0;
 }
 
+// Puts the low bytes of a number behind others.
+void put_number(Bytes &bytes, std::uint64_t number, int size) {
+    for (int k = 0; k < size; k++) bytes.push_back(static_cast<std::uint8_t>(number >> 8 * k));
+}
+
 // Makes the call of one frame, and puts its answer behind the others.
 void answer(const std::uint8_t *frame, std::size_t size, std::size_t room, Bytes &answers) {
     static Bytes lent, before;
@@ -65,8 +74,76 @@ void answer(const std::uint8_t *frame, std::size_t size, std::size_t room, Bytes
         std::fprintf(stderr, "bridge: a byte outside the lent ones was changed\n");
         std::exit(2);
     }
-    for (int k = 0; k < 8; k++) answers.push_back(static_cast<std::uint8_t>(packed >> 8 * k));
+    put_number(answers, packed, 8);
     answers.insert(answers.end(), lent.begin() + guard, lent.begin() + guard + room);
+}
+
+// The little-endian numbers of an input.
+std::vector<std::int32_t> numbers_in(const std::uint8_t *input, std::size_t size) {
+    std::vector<std::int32_t> numbers;
+    for (std::size_t at = 0; at < size; at += 4) numbers.push_back(static_cast<std::int32_t>(number(input + at)));
+    return numbers;
+}
+
+// What a function of sheets.hpp answered: the refusal, or the item and the value in bytes.
+struct Value {
+    sheets::Refusal refusal;
+    std::uint64_t item = 0;
+    Bytes bytes = {};
+};
+
+template <class Number>
+Bytes bytes_of(const std::vector<Number> &numbers) {
+    Bytes bytes;
+    for (Number number : numbers) put_number(bytes, static_cast<std::uint64_t>(number), sizeof number);
+    return bytes;
+}
+
+Bytes bytes_of(const std::vector<sheets::Side> &sides) {
+    Bytes bytes;
+    for (const sheets::Side &side : sides)
+        for (std::int32_t number : {side.ux, side.uy, side.vx, side.vy}) put_number(bytes, static_cast<std::uint64_t>(number), 4);
+    return bytes;
+}
+
+Value listing(const std::uint8_t *input, std::size_t size) {
+    std::string text = sheets::listing(input, size);
+    return {{}, text.size(), Bytes(text.begin(), text.end())};
+}
+
+Value verdict(const std::uint8_t *input, std::size_t size) {
+    sheets::Verdict verdict = sheets::verdict(input, size);
+    if (verdict.finding == sheets::Finding::Refused) return {verdict.refusal};
+    return {{}, 0, {static_cast<std::uint8_t>(verdict.finding == sheets::Finding::Repair)}};
+}
+
+// An answer whose item is the length of its value, or of the value's bytes.
+template <class T>
+Value counted(const sheets::Answer<T> &answer, bool by_bytes) {
+    if (!answer) return {answer.refusal};
+    Bytes bytes = bytes_of(answer.value);
+    return {{}, by_bytes ? bytes.size() : answer.value.size(), bytes};
+}
+
+Value wrapped(unsigned function, std::uint32_t asked, const std::uint8_t *input, std::size_t size) {
+    switch (function) {
+        case 0: return counted(sheets::numbers(input, size), true);
+        case 1: return counted(sheets::write(numbers_in(input, size)), true);
+        case 2: return counted(sheets::owner_sets(input, size), false);
+        case 3: return counted(sheets::owners(input, size), false);
+        case 4: return counted(sheets::boundary(input, size, asked), false);
+        case 5: return listing(input, size);
+        case 6: return verdict(input, size);
+    }
+    std::exit(3);
+}
+
+// Calls the function of one frame, and puts its answer behind the others. An empty input comes with a null pointer.
+void answer_wrapped(const std::uint8_t *frame, std::size_t size, Bytes &answers) {
+    Value value = wrapped(frame[0], number(frame + 1), size == 0 ? nullptr : frame + head, size);
+    put_number(answers, value.item << 8 | value.refusal.item << 8 | value.refusal.code, 8);
+    put_number(answers, value.bytes.size(), 4);
+    answers.insert(answers.end(), value.bytes.begin(), value.bytes.end());
 }
 
 void put(Bytes &bytes) {
@@ -92,7 +169,10 @@ void *serve(void *) {
         while (frames.size() - at >= head) {
             std::size_t size = number(&frames[at] + 5), room = number(&frames[at] + 9);
             if (frames.size() - at - head < size) break;
-            answer(&frames[at], size, room, answers);
+            if (room == own_room)
+                answer_wrapped(&frames[at], size, answers);
+            else
+                answer(&frames[at], size, room, answers);
             at += head + size;
         }
         frames.erase(frames.begin(), frames.begin() + static_cast<std::ptrdiff_t>(at));

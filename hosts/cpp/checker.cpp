@@ -1,102 +1,186 @@
 // The desktop checker's command line: prints the listing of sheets, or one verdict line for each.
-#include <sheets.h>
+#include "files.hpp"
+#include "names.hpp"
+
+#include <sheets.hpp>
+
+#include <pthread.h>
+#include <unistd.h>
 
 #include <algorithm>
-#include <cstdint>
+#include <cerrno>
+#include <csignal>
 #include <cstdio>
-#include <iostream>
+#include <cstring>
+#include <exception>
+#include <new>
+#include <stdexcept>
 #include <string>
+#include <string_view>
 #include <vector>
 
 namespace {
 
-using Bytes = std::vector<std::uint8_t>;
+using sheets::Finding;
+using sheets::Verdict;
 
-// The exit statuses, the worst of all sheets counts.
+// The exit statuses; the highest counts.
 enum Status { Clean = 0, Repair = 1, Refused = 2, Unreadable = 3 };
 
 const char help[] =
     "usage: checker [--batch] [FILE..]\n"
-    "Prints the listing of each sheet file, with its name above where there are several, or of standard input where no file is named\n"
-    "('-' is standard input, too).\n"
-    "  --batch   one line for each file: FILE: clean, FILE: repair, FILE: refused CODE ITEM, or FILE: could not be read\n"
-    "  --help    this text\n"
+    "Prints the listing of each sheet file, with its name above where there are several, or of standard input where no file is named.\n"
+    "The verdict line of a sheet that is refused or could not be read goes to standard error.\n"
+    "  --batch      the verdict lines alone: FILE: clean, FILE: repair, FILE: refused CODE ITEM: WHY, or FILE: could not be read: WHY\n"
+    "  -h, --help   this text\n"
+    "  --version    the version\n"
+    "  --           every word behind it is a file\n"
+    "FILE is a regular file, or - for standard input. A file whose name begins with a dash is written ./-name, or behind --.\n"
     "Exit status: 0 all sheets are clean, 1 one needs repair, 2 one is refused, 3 one could not be read; the highest counts.\n";
 
-// The whole of a file, or of standard input for '-'.
-bool read(const std::string &path, Bytes &bytes) {
-    std::FILE *file = path == "-" ? stdin : std::fopen(path.c_str(), "rb");
-    if (file == nullptr) return false;
-    std::uint8_t part[1 << 16];
-    while (std::size_t n = std::fread(part, 1, sizeof part, file)) bytes.insert(bytes.end(), part, part + n);
-    bool whole = std::ferror(file) == 0;
-    if (file != stdin) std::fclose(file);
-    return whole;
-}
-
-// What the owner sets of a sheet say: every triangle has exactly one owner, or repair is needed; or the refusal.
-Status verdict(const Bytes &sheet, std::uint64_t &answer) {
-    Bytes sets(SHEETS_OWNER_SETS_ROOM);
-    answer = sheet_owner_sets(sheet.data(), sheet.size(), sets.data(), sets.size());
-    if (SHEETS_CODE(answer) != 0) return Refused;
-    for (std::uint64_t triangle = 0; triangle < SHEETS_ITEM(answer); triangle++) {
-        int owners = 0;
-        for (int k = 0; k < 8; k++) owners += __builtin_popcount(sets[8 * triangle + k]);
-        if (owners != 1) return Repair;
+// Writes all of a text, at once, so that it is kept whatever ends the program.
+void put(std::string_view text) {
+    while (!text.empty()) {
+        const ssize_t n = write(STDOUT_FILENO, text.data(), text.size());
+        if (n > 0) text.remove_prefix(static_cast<std::size_t>(n));
+        if (n < 0 && errno != EINTR) throw std::runtime_error(std::string("standard output could not be written: ") + std::strerror(errno));
     }
-    return Clean;
 }
 
-std::string listing(const Bytes &sheet) {
-    std::string text(SHEETS_LISTING_ROOM, '\0');
-    std::uint64_t answer = sheet_listing(sheet.data(), sheet.size(), reinterpret_cast<std::uint8_t *>(&text[0]), text.size());
-    text.resize(SHEETS_ITEM(answer));
-    return text;
+// A message; where standard error can't be written, nobody is there to be told.
+void say(std::string_view text) {
+    if (write(STDERR_FILENO, text.data(), text.size()) < 0) return;
 }
 
-// What is printed for a file: its verdict on one line, its listing, or its name and its listing.
+// The verdict that a listing tells.
+Verdict told(const std::string &listing) {
+    unsigned code = 0;
+    unsigned long long item = 0;
+    if (std::sscanf(listing.c_str(), "refused %u %llu", &code, &item) == 2) return {Finding::Refused, {code, item}};
+    if (listing.find("\nverdict clean\n") != std::string::npos) return {Finding::Clean, {}};
+    if (listing.find("\nverdict repair\n") != std::string::npos) return {Finding::Repair, {}};
+    throw std::logic_error("a listing without a verdict");
+}
+
+// A verdict behind the name of its file.
+std::string line(const std::string &path, const Verdict &verdict) {
+    const std::string name = names::shown(path);
+    if (verdict.finding == Finding::Clean) return name + ": clean\n";
+    if (verdict.finding == Finding::Repair) return name + ": repair\n";
+    const sheets::Refusal refusal = verdict.refusal;
+    return name + ": refused " + std::to_string(refusal.code) + ' ' + std::to_string(refusal.item) + ": " + sheets::sentence(refusal) + '\n';
+}
+
+Status status(const Verdict &verdict) {
+    return verdict.finding == Finding::Clean ? Clean : verdict.finding == Finding::Repair ? Repair : Refused;
+}
+
+// What is printed for a file: its verdict line, its listing, or its name and its listing.
 enum class Print { Line, Listing, Named };
 
+Status judged(const std::string &path, Print print) {
+    const sheets::Bytes sheet = files::read(path);
+    if (print == Print::Line) {
+        const Verdict verdict = sheets::verdict(sheet.data(), sheet.size());
+        put(line(path, verdict));
+        return status(verdict);
+    }
+    const std::string listing = sheets::listing(sheet.data(), sheet.size());
+    put((print == Print::Named ? names::shown(path) + ":\n" : "") + listing);
+    const Verdict verdict = told(listing);
+    if (verdict.finding == Finding::Refused) say(line(path, verdict));
+    return status(verdict);
+}
+
 Status check(const std::string &path, Print print) {
-    Bytes sheet;
-    sheet.reserve(1);  // an entry takes no null pointer, not for an empty sheet either
-    if (!read(path, sheet)) {
-        (print == Print::Line ? std::cout : std::cerr) << path << ": could not be read\n";
+    try {
+        return judged(path, print);
+    } catch (const files::Unread &reason) {
+        const std::string unread = names::shown(path) + ": could not be read: " + reason.what() + '\n';
+        print == Print::Line ? put(unread) : say(unread);
         return Unreadable;
     }
-    std::uint64_t answer;
-    Status status = verdict(sheet, answer);
-    if (print != Print::Line)
-        std::cout << (print == Print::Named ? path + ":\n" : "") << listing(sheet);
-    else if (status == Refused)
-        std::cout << path << ": refused " << SHEETS_CODE(answer) << ' ' << SHEETS_ITEM(answer) << '\n';
-    else
-        std::cout << path << (status == Clean ? ": clean\n" : ": repair\n");
-    return status;
+}
+
+// Checks the files in their order.
+int check_all(std::vector<std::string> paths, bool batch) {
+    if (paths.empty()) paths.push_back("-");
+    if (std::count(paths.begin(), paths.end(), "-") > 1) {
+        say("checker: standard input can be named only once\n");
+        return Unreadable;
+    }
+    const Print print = batch ? Print::Line : paths.size() == 1 ? Print::Listing : Print::Named;
+    int worst = Clean;
+    for (const std::string &path : paths) worst = std::max<int>(worst, check(path, print));
+    return worst;
+}
+
+// Does what the words of the command say.
+int run(const std::vector<std::string> &words) {
+    bool batch = false, only_files = false;
+    std::vector<std::string> paths;
+    for (const std::string &word : words) {
+        if (only_files || word == "-" || word.substr(0, 1) != "-") {
+            paths.push_back(word);
+        } else if (word == "-h" || word == "--help") {
+            put(help);
+            return Clean;
+        } else if (word == "--version") {
+            put("checker " SHEETS_VERSION "\n");
+            return Clean;
+        } else if (word == "--batch") {
+            batch = true;
+        } else if (word == "--") {
+            only_files = true;
+        } else {
+            const std::string name = names::shown(word);
+            say("checker: there is no option " + name + ": see checker --help; a file of that name is written ./" + name + " or behind --\n");
+            return Unreadable;
+        }
+    }
+    return check_all(paths, batch);
+}
+
+// The command's words, and the status to end with.
+struct Command {
+    std::vector<std::string> words;
+    int status = Unreadable;
+};
+
+void *follow(void *given) {
+    Command &command = *static_cast<Command *>(given);
+    try {
+        command.status = run(command.words);
+    } catch (const std::bad_alloc &) {
+        say("checker: out of memory\n");
+    } catch (const std::exception &error) {
+        for (const char *text : {"checker: ", error.what(), "\n"}) say(text);
+    }
+    return nullptr;
+}
+
+// Where there is no memory to throw an exception either.
+[[noreturn]] void end() {
+    say("checker: out of memory\n");
+    _exit(Unreadable);
 }
 
 }  // namespace
 
+// The work is done on a thread that has the stack which the library needs, whatever the limits of the first one.
 int main(int count, char **words) {
-    bool batch = false;
-    std::vector<std::string> paths;
-    for (int i = 1; i < count; i++) {
-        std::string word = words[i];
-        if (word == "--help") {
-            std::cout << help;
-            return 0;
-        }
-        if (word == "--batch")
-            batch = true;
-        else if (word.size() > 1 && word[0] == '-') {
-            std::cerr << "checker: there is no option " << word << "\n" << help;
-            return Unreadable;
-        } else
-            paths.push_back(word);
+    std::signal(SIGPIPE, SIG_IGN);  // a closed pipe is told as any other output that can't be written
+    std::set_terminate(end);
+    Command command{{words + 1, words + count}};
+    pthread_attr_t attributes;
+    pthread_attr_init(&attributes);
+    pthread_attr_setstacksize(&attributes, 2 * SHEETS_STACK);
+    pthread_t thread;
+    const int failed = pthread_create(&thread, &attributes, follow, &command);
+    if (failed != 0) {
+        for (const char *text : {"checker: no thread could be started: ", static_cast<const char *>(std::strerror(failed)), "\n"}) say(text);
+        return Unreadable;
     }
-    if (paths.empty()) paths.push_back("-");
-    Print print = batch ? Print::Line : paths.size() == 1 ? Print::Listing : Print::Named;
-    int worst = Clean;
-    for (const std::string &path : paths) worst = std::max(worst, static_cast<int>(check(path, print)));
-    return std::cout.flush() ? worst : static_cast<int>(Unreadable);
+    pthread_join(thread, nullptr);
+    return command.status;
 }

@@ -1,47 +1,84 @@
 //! Calls of the library that stands behind a bridge, a program on the other side of two pipes.
 //!
-//! A call is the frame u8 entry (0 numbers, 1 write, 2 owner sets, 3 owners, 4 boundary, 5 listing), u32 asked,
-//! u32 input length, u32 room, then the input, all little-endian. The bridge answers u64 packed answer and exactly
-//! `room` bytes: the lent bytes after the call, where lent byte i was (i * 131 + 17) % 256 before it.
+//! A call is the frame u8 function (0 numbers, 1 write, 2 owner sets, 3 owners, 4 boundary, 5 listing, 6 verdict), u32 asked,
+//! u32 input length, u32 room, then the input, all little-endian. The bridge calls the entry with so much room, and answers
+//! u64 packed answer and exactly `room` bytes: the lent bytes after the call, where lent byte i was (i * 131 + 17) % 256
+//! before it.
+//!
+//! A room of 2^32 - 1 asks for the bridge's wrapper, whose room is its own. The bridge answers u64 packed answer, put
+//! together from what the wrapper says; u32 length; and so many bytes, the wrapper's value turned back to bytes, none for a
+//! refusal. The wrapper alone has a verdict: its item is 0 and its value one byte, 0 for clean and 1 for repair.
 //!
 //! Frames may come without waiting for answers; a bridge that has no frame left to take must have flushed its answers.
 
-use crate::entries::{packed, Entry, Success};
+use crate::entries::{packed, Entry, Input, Success};
 use crate::Refusal;
 use std::io::Read;
 use std::process::{Child, Command, Stdio};
 
-/// The entries' names, by the numbers that they have in a frame.
-pub const NAMES: [&str; 6] = ["numbers", "write", "owner sets", "owners", "boundary", "listing"];
+/// The functions' names, by the numbers that they have in a frame.
+pub const NAMES: [&str; 7] = ["numbers", "write", "owner sets", "owners", "boundary", "listing", "verdict"];
+
+/// What is called.
+#[derive(Clone, Copy, PartialEq, Eq, Debug)]
+pub enum Function {
+    /// An entry, with the polygon that is asked for.
+    Entry(Entry),
+    /// A wrapper's verdict.
+    Verdict,
+}
+
+impl Function {
+    /// The function's number in a frame, and the polygon asked for.
+    fn numbers(self) -> (usize, u32) {
+        match self {
+            Function::Entry(Entry::Numbers) => (0, 0),
+            Function::Entry(Entry::Write) => (1, 0),
+            Function::Entry(Entry::OwnerSets) => (2, 0),
+            Function::Entry(Entry::Owners) => (3, 0),
+            Function::Entry(Entry::Boundary(asked)) => (4, asked),
+            Function::Entry(Entry::Listing) => (5, 0),
+            Function::Verdict => (6, 0),
+        }
+    }
+
+    /// The right answer if there is room enough.
+    pub fn whole(self, input: &Input) -> Result<Success, Refusal> {
+        match self {
+            Function::Entry(entry) => input.whole(entry),
+            Function::Verdict => {
+                let clean = input.judged()?.owners.iter().all(|set| set.count_ones() == 1);
+                Ok(Success { item: 0, bytes: vec![u8::from(!clean)] })
+            }
+        }
+    }
+}
+
+/// The room of a call.
+#[derive(Clone, Copy, PartialEq, Eq, Debug)]
+pub enum Room {
+    /// So many lent bytes.
+    Lent(usize),
+    /// The wrapper's own.
+    Own,
+}
 
 /// A call and what is to come of it.
 pub struct Call {
     /// What stands for the call's input in a message.
     pub input: String,
-    /// The entry, with the polygon that is asked for.
-    pub entry: Entry,
-    /// The number of lent bytes.
-    pub room: usize,
-    /// The right answer with so many lent bytes.
+    /// What is called.
+    pub function: Function,
+    /// The room that it has.
+    pub room: Room,
+    /// The right answer with this room.
     pub expected: Result<Success, Refusal>,
 }
 
 impl Call {
-    /// The entry's number in a frame, and the polygon asked for.
-    fn numbers(&self) -> (usize, u32) {
-        match self.entry {
-            Entry::Numbers => (0, 0),
-            Entry::Write => (1, 0),
-            Entry::OwnerSets => (2, 0),
-            Entry::Owners => (3, 0),
-            Entry::Boundary(asked) => (4, asked),
-            Entry::Listing => (5, 0),
-        }
-    }
-
-    /// The entry's number in a frame.
+    /// The function's number in a frame.
     pub fn number(&self) -> usize {
-        self.numbers().0
+        self.function.numbers().0
     }
 
     /// The packed answer.
@@ -51,15 +88,19 @@ impl Call {
 
     /// What stands for the call in a message.
     pub fn name(&self) -> String {
-        let (number, asked) = self.numbers();
-        format!("{} {} asked {asked} room {}", self.input, NAMES[number], self.room)
+        let (number, asked) = self.function.numbers();
+        format!("{} {} asked {asked} room {:?}", self.input, NAMES[number], self.room)
     }
 
     /// The frame with this input.
     pub fn frame(&self, input: &[u8]) -> Vec<u8> {
-        let (number, asked) = self.numbers();
+        let (number, asked) = self.function.numbers();
+        let room = match self.room {
+            Room::Lent(room) => room as u32,
+            Room::Own => u32::MAX,
+        };
         let mut frame = vec![number as u8];
-        for part in [asked, input.len() as u32, self.room as u32] {
+        for part in [asked, input.len() as u32, room] {
             frame.extend(part.to_le_bytes());
         }
         frame.extend(input);
@@ -68,21 +109,39 @@ impl Call {
 
     /// Reads the bridge's answer: the difference from the right one, if any.
     pub fn difference(&self, answers: &mut impl Read) -> Option<String> {
-        let mut answer = [0; 8];
-        let mut lent = vec![0; self.room];
-        if let Err(error) = answers.read_exact(&mut answer).and_then(|()| answers.read_exact(&mut lent)) {
-            return Some(format!("no answer from the bridge: {error}"));
-        }
-        let answer = u64::from_le_bytes(answer);
+        let (answer, bytes) = match self.answer(answers) {
+            Ok(answer) => answer,
+            Err(error) => return Some(format!("no answer from the bridge: {error}")),
+        };
         if answer != self.packed() {
             return Some(format!("the bridge answers {}, right is {}", shown(answer), shown(self.packed())));
         }
         let written = self.expected.as_ref().map_or(&[][..], |success| &success.bytes);
-        let untouched = (written.len()..lent.len()).map(before_call);
+        if self.room == Room::Own && bytes.len() != written.len() {
+            return Some(format!("{}, {} bytes, right are {}", shown(answer), bytes.len(), written.len()));
+        }
+        let untouched = (written.len()..bytes.len()).map(before_call);
         let right = written.iter().copied().chain(untouched);
-        let place = lent.iter().copied().zip(right).position(|(got, right)| got != right)?;
+        let place = bytes.iter().copied().zip(right).position(|(got, right)| got != right)?;
         let what = if place < written.len() { "written" } else { "to be left alone" };
-        Some(format!("{}, lent byte {place} ({what}) is {}", shown(answer), lent[place]))
+        Some(format!("{}, byte {place} ({what}) is {}", shown(answer), bytes[place]))
+    }
+
+    /// The packed answer, and the lent bytes or the wrapper's value.
+    fn answer(&self, answers: &mut impl Read) -> std::io::Result<(u64, Vec<u8>)> {
+        let mut answer = [0; 8];
+        answers.read_exact(&mut answer)?;
+        let length = match self.room {
+            Room::Lent(room) => room,
+            Room::Own => {
+                let mut length = [0; 4];
+                answers.read_exact(&mut length)?;
+                u32::from_le_bytes(length) as usize
+            }
+        };
+        let mut bytes = vec![0; length];
+        answers.read_exact(&mut bytes)?;
+        Ok((u64::from_le_bytes(answer), bytes))
     }
 }
 

@@ -1,8 +1,9 @@
 //! The entries: what each answers, and what it writes at the front of the lent bytes.
 
-use crate::ownership::judge_sheet;
+use crate::ownership::{judge_sheet, Judged};
 use crate::repair::{boundary_sides, repair};
 use crate::{listing, reading, writing, Refusal};
+use std::cell::OnceCell;
 
 /// One of the entries called from outside.
 #[derive(Clone, Copy, PartialEq, Eq, Debug)]
@@ -54,13 +55,36 @@ pub fn fit(answer: Result<Success, Refusal>, room: usize) -> Result<Success, Ref
 
 /// The answer if enough bytes are lent.
 pub fn whole(entry: Entry, input: &[u8]) -> Result<Success, Refusal> {
-    match entry {
-        Entry::Numbers => reading::read(input).map(|sheet| counted(writing::numbers(&sheet))),
-        Entry::Write => writing::take_numbers(input).map(|sheet| counted(writing::write(&sheet))),
-        Entry::OwnerSets => owner_sets(input),
-        Entry::Owners => owners(input),
-        Entry::Boundary(asked) => boundary(input, asked),
-        Entry::Listing => Ok(counted(listing::listing(input).into_bytes())),
+    Input::new(input).whole(entry)
+}
+
+/// The input of entries, whose polygons are judged once for all of them.
+pub struct Input<'a> {
+    bytes: &'a [u8],
+    judged: OnceCell<Result<Judged, Refusal>>,
+}
+
+impl<'a> Input<'a> {
+    /// The input of these bytes.
+    pub fn new(bytes: &'a [u8]) -> Input<'a> {
+        Input { bytes, judged: OnceCell::new() }
+    }
+
+    /// The judged sheet, or why there is none.
+    pub fn judged(&self) -> Result<&Judged, Refusal> {
+        self.judged.get_or_init(|| judge_sheet(self.bytes)).as_ref().map_err(|refusal| *refusal)
+    }
+
+    /// An entry's answer if enough bytes are lent.
+    pub fn whole(&self, entry: Entry) -> Result<Success, Refusal> {
+        match entry {
+            Entry::Numbers => reading::read(self.bytes).map(|sheet| counted(writing::numbers(&sheet))),
+            Entry::Write => writing::take_numbers(self.bytes).map(|sheet| counted(writing::write(&sheet))),
+            Entry::OwnerSets => Ok(owner_sets(self.judged()?)),
+            Entry::Owners => owners(self.judged()?),
+            Entry::Boundary(asked) => boundary(self.judged()?, asked),
+            Entry::Listing => Ok(counted(listing::of(self.judged()).into_bytes())),
+        }
     }
 }
 
@@ -69,20 +93,17 @@ fn counted(bytes: Vec<u8>) -> Success {
     Success { item: bytes.len() as u64, bytes }
 }
 
-fn owner_sets(input: &[u8]) -> Result<Success, Refusal> {
-    let owners = judge_sheet(input)?.owners;
-    let bytes = owners.iter().flat_map(|set| set.to_le_bytes()).collect();
-    Ok(Success { item: owners.len() as u64, bytes })
+fn owner_sets(judged: &Judged) -> Success {
+    let bytes = judged.owners.iter().flat_map(|set| set.to_le_bytes()).collect();
+    Success { item: judged.owners.len() as u64, bytes }
 }
 
-fn owners(input: &[u8]) -> Result<Success, Refusal> {
-    let judged = judge_sheet(input)?;
+fn owners(judged: &Judged) -> Result<Success, Refusal> {
     Ok(counted(repair(&judged.table, &judged.owners)?))
 }
 
 /// After 20 come 41 and 30.
-fn boundary(input: &[u8], asked: u32) -> Result<Success, Refusal> {
-    let judged = judge_sheet(input)?;
+fn boundary(judged: &Judged, asked: u32) -> Result<Success, Refusal> {
     if asked == 0 || asked as usize > judged.sheet.polygons.len() {
         return Err(Refusal::new(41, 0));
     }

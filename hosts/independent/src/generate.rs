@@ -37,6 +37,14 @@ pub fn largest(seed: u64) -> Vec<u8> {
     large::largest(&mut Dice::new(seed))
 }
 
+/// One of the sheets at the end of a length that document 01 allows, of each kind in turn: the largest; that with the
+/// most numbers, 65,800 bytes of them, and written in the most bytes, 158,290; the longest one, 185,938 bytes; that with
+/// the longest listing, 3,328 bytes; and that with the most boundary sides, 1,845 of polygon 1.
+pub fn extreme(place: u64) -> Vec<u8> {
+    let kinds = [large::largest, large::most_numbers, large::longest, large::longest_listing, large::most_sides];
+    kinds[place as usize % kinds.len()](&mut Dice::new(place))
+}
+
 /// A clean sheet of so many triangles, a power of 2 from 2 to 1,024, and a polygon for each 16 of them.
 pub fn sized(seed: u64, triangles: usize) -> Vec<u8> {
     large::sized(&mut Dice::new(seed), triangles)
@@ -127,7 +135,7 @@ fn across(triangles: &[Triangle], (u, v): crate::Side) -> Option<usize> {
 #[cfg(test)]
 mod tests {
     use super::*;
-    use crate::entries::{answer, Entry};
+    use crate::entries::{answer, whole, Entry};
 
     #[test]
     fn sound_sheets_are_carried() {
@@ -153,6 +161,19 @@ mod tests {
                 assert!(triangles == 1 << power && polygons <= triangles.div_ceil(16));
             }
         }
+    }
+
+    #[test]
+    fn extreme_sheets_are_as_long_as_they_say() {
+        let longest = |entry| (0..10).map(|place| whole(entry, &extreme(place)).unwrap().bytes.len()).max();
+        let written = (0..10).map(|place| whole(Entry::Write, &whole(Entry::Numbers, &extreme(place)).unwrap().bytes));
+        assert_eq!(longest(Entry::Numbers), Some(65_800));
+        assert_eq!(written.map(|success| success.unwrap().bytes.len()).max(), Some(158_290));
+        assert_eq!((0..10).map(|place| extreme(place).len()).max(), Some(185_938));
+        assert_eq!(longest(Entry::OwnerSets), Some(8 * 1_024));
+        assert_eq!(longest(Entry::Owners), Some(1_024));
+        assert_eq!(longest(Entry::Boundary(1)), Some(16 * 1_845));
+        assert_eq!(longest(Entry::Listing), Some(3_328));
     }
 
     #[test]

@@ -10,8 +10,13 @@ pub const LONGEST_INPUT: usize = 65_536;
 
 /// What is printed for this sheet. The input is taken whole: cutting it is the caller's.
 pub fn listing(bytes: &[u8]) -> String {
-    match judge_sheet(bytes) {
-        Ok(judged) => lines(&judged),
+    of(judge_sheet(bytes).as_ref().map_err(|refusal| *refusal))
+}
+
+/// What is printed for a judged sheet, or for a refusal.
+pub fn of(judged: Result<&Judged, Refusal>) -> String {
+    match judged {
+        Ok(judged) => lines(judged),
         Err(refusal) => refused(refusal),
     }
 }

@@ -1,7 +1,8 @@
 //! Safe functions over the sheets library, which reads, checks, repairs and writes land-use sheets. Each entry of the library is proved to do what
 //! its description says, for every input; this crate only gives it ordinary Rust types.
 //!
-//! The library allocates nothing and keeps no state; any number of threads may call any function at once. A call needs 512 KiB of free stack.
+//! The library allocates nothing and keeps no state; any number of threads may call any function at once. A call needs 512 KiB of free stack,
+//! [`STACK`].
 #![warn(missing_docs)]
 
 use std::fmt;
@@ -28,6 +29,11 @@ pub const BOUNDARY_ROOM: usize = 49_152;
 /// Room that is always enough for the listing of a sheet.
 pub const LISTING_ROOM: usize = 6_600;
 
+/// Free stack that a calling thread needs, in bytes.
+pub const STACK: usize = 524_288;
+/// So many bytes of a file are always enough to read the sheet in it: what the library answers on the first so many of longer ones is what it answers on all.
+pub const READ_CAP: usize = 196_608;
+
 /// Why a call was refused: a code, and the member, triangle or polygon that it is about, 0 for none.
 #[derive(Clone, Copy, Debug, PartialEq, Eq, Hash)]
 pub struct Refusal {
@@ -37,34 +43,30 @@ pub struct Refusal {
     pub item: u64,
 }
 
+/// The table of refusals, which the C++ functions have, too: a line SHEETS_REFUSAL(code, what the item is, "sentence") for each.
+const REFUSALS: &str = include_str!("../../../include/refusals.def");
+
+/// What the item of a line of the table is, and its sentence, if the line is this code's.
+fn told(line: &'static str, code: u8) -> Option<(&'static str, &'static str)> {
+    let (number, rest) = line.strip_prefix("SHEETS_REFUSAL(")?.split_once(", ")?;
+    let item_and_sentence = rest.strip_suffix("\")")?.split_once(", \"")?;
+    (number == code.to_string()).then_some(item_and_sentence)
+}
+
 impl Refusal {
-    /// A sentence for the code, with the item where it has one.
+    /// The refusal in words.
     pub fn sentence(&self) -> String {
-        let member = match self.item {
-            0 => "the sheet's own header".to_string(),
-            1 => "member 1, the triangle table".to_string(),
-            n => format!("member {n}"),
+        let Some((item, sentence)) = REFUSALS.lines().find_map(|line| told(line, self.code)) else {
+            return format!("the library has no refusal {}", self.code);
         };
-        let item = self.item;
-        match self.code {
-            1 => format!("the bytes end too early for the next field of {member}"),
-            2 => format!("a byte order in {member} is neither 0 nor 1"),
-            3 => format!("a type in {member} isn't allowed at its place"),
-            4 => format!("a count in {member} is outside the limits"),
-            5 => format!("a point in {member} isn't given in whole millimetres within 10,000,000"),
-            6 => format!("a ring in {member} doesn't end at its first point"),
-            7 => "there are bytes after the sheet".to_string(),
-            8 => format!("a collection in {member} is nested too deep"),
-            10 => format!("triangle {item} has no area above 0"),
-            11 => format!("triangle {item} has a side of an earlier triangle"),
-            12 => "the triangles don't make up the frame".to_string(),
-            20 => format!("no set of triangles carries polygon {item}"),
-            30 => "repair can't be done, since no triangle has an owner".to_string(),
-            40 => "the answer is longer than the lent bytes".to_string(),
-            41 => "the polygon that is asked for isn't on the sheet".to_string(),
-            42 => "the numbers don't make up a sheet within the limits".to_string(),
-            code => format!("the library has no refusal {code}"),
-        }
+        let named = match (item, self.item) {
+            ("TRIANGLE", number) => format!("triangle {number}"),
+            ("POLYGON", number) => format!("polygon {number}"),
+            (_, 0) => "the sheet's own header".to_string(),
+            (_, 1) => "member 1, the triangle table".to_string(),
+            (_, number) => format!("member {number}"),
+        };
+        sentence.replace("{}", &named)
     }
 }
 

@@ -37,7 +37,10 @@ fn each_refusal_says_what_it_is_about() {
     assert_eq!(owners(&sheet), Err(Refusal { code: 30, item: 0 }));
     assert_eq!(boundary(&sheet, 1), Err(Refusal { code: 41, item: 0 }));
     assert_eq!(write(&[2]), Err(Refusal { code: 42, item: 0 }));
-    assert_eq!(numbers(&sheet[..600]).unwrap_err().to_string(), "the bytes end too early for the next field of member 1, the triangle table (code 1, item 1)");
+    assert_eq!(
+        numbers(&sheet[..600]).unwrap_err().to_string(),
+        "the bytes end too early for the next field of member 1, the triangle table (code 1, item 1)"
+    );
     let codes = [1, 2, 3, 4, 5, 6, 7, 8, 10, 11, 12, 20, 30, 40, 41, 42];
     let sentences: std::collections::BTreeSet<String> = codes.iter().map(|&code| Refusal { code, item: 7 }.sentence()).collect();
     assert_eq!(sentences.len(), codes.len());

@@ -39,11 +39,11 @@ slice-aggregate-write-all c = sym (length-take-le _ _ (omega (arith, c .before .
 write-all-requires : tie.Need-write-all-requires
 write-all-requires c κs = search needs
 
+say-if-cut-requires : tie.Need-say-if-cut-requires
+say-if-cut-requires c κs = search needs
+
 returns : tie.Need-returns
 returns c = search needs
-
-returns-2 : tie.Need-returns-2
-returns-2 c = search needs
 
 pub main-spec : {M : Type 1} → statement M
 main-spec =
@@ -60,5 +60,5 @@ main-spec =
     array-share-prefix-text
     slice-aggregate-write-all
     write-all-requires
-    returns
-    returns-2)
+    say-if-cut-requires
+    returns)

@@ -2,8 +2,8 @@
 //! with those of the library behind a bridge. Prints each difference and last `N passed, M failed`; the exit status is 1
 //! if any failed.
 
-use independent::bridge::{start, Call};
-use independent::entries::{fit, whole, Entry, Success};
+use independent::bridge::{start, Call, Function, Room};
+use independent::entries::{fit, Entry, Input, Success};
 use independent::listing::LONGEST_INPUT;
 use independent::Refusal;
 use std::io::{BufReader, Write};
@@ -61,7 +61,8 @@ fn difference(call: &Call, input: &[u8], pipes: &mut Option<Pipes>) -> Option<St
         frames.write_all(&call.frame(input)).expect("the bridge takes a frame");
         return call.difference(answers);
     }
-    let got = fit(whole(call.entry, input), call.room);
+    let Room::Lent(room) = call.room else { panic!("a line has a room") };
+    let got = fit(call.function.whole(&Input::new(input)), room);
     (got != call.expected).then(|| format!("file {:?}, independent {got:?}", call.expected))
 }
 
@@ -90,13 +91,14 @@ fn call(input: &str, name: &str, asked: &str, room: &str, packed: &str, output: 
         Some(hex) => Ok(Success { item: packed / 256, bytes: unhex(hex) }),
         None => Err(Refusal::new((packed % 256) as u8, packed / 256)),
     };
-    let room = room.parse().expect("a number of lent bytes");
-    Call { input: input.to_string(), entry: entry(name, asked), room, expected }
+    let room = Room::Lent(room.parse().expect("a number of lent bytes"));
+    Call { input: input.to_string(), function: Function::Entry(entry(name, asked)), room, expected }
 }
 
 /// The call of a `listing` line, with more room than it needs.
 fn listing(input: &str, hex: &str) -> Call {
     let bytes = unhex(hex);
     let expected = Ok(Success { item: bytes.len() as u64, bytes });
-    Call { input: input.to_string(), entry: Entry::Listing, room: 7_000, expected }
+    let function = Function::Entry(Entry::Listing);
+    Call { input: input.to_string(), function, room: Room::Lent(7_000), expected }
 }

@@ -32,6 +32,11 @@ pub fn of_at_most(dice: &mut Dice, most: usize) -> Vec<Triangle> {
 /// A grid of cells, each halved by one of its diagonals.
 pub fn grid(dice: &mut Dice, columns: usize, rows: usize) -> Vec<Triangle> {
     let (xs, ys) = (lines(dice, columns), lines(dice, rows));
+    on_lines(dice, &xs, &ys)
+}
+
+/// The grid on these lines.
+pub fn on_lines(dice: &mut Dice, xs: &[i64], ys: &[i64]) -> Vec<Triangle> {
     let slant = dice.below(3);
     let mut triangles = Vec::new();
     for x in xs.windows(2) {

@@ -1,25 +1,58 @@
-//! The six calls of an input, and what the independent program answers.
+//! The calls of an input, and what the independent program answers.
 
 use crate::inputs::Inputs;
-use independent::bridge::Call;
-use independent::entries::{fit, whole, Entry, Success};
+use independent::bridge::{Call, Function, Room};
+use independent::entries::{fit, Entry, Input, Success};
 use independent::{reading, Refusal};
 
-/// Adds the six calls of an input and their frames.
-pub fn add_calls(inputs: &Inputs, place: u64, calls: &mut Vec<Call>, frames: &mut Vec<u8>) {
-    let sheet = inputs.sheet(place);
-    let polygons = reading::read(&sheet).map_or(2, |sheet| sheet.polygons.len() as u32);
-    let asked = asked(place, polygons);
-    let entries =
-        [Entry::Numbers, Entry::Write, Entry::OwnerSets, Entry::Owners, Entry::Boundary(asked), Entry::Listing];
-    for (purpose, entry) in entries.into_iter().enumerate() {
-        let input = if entry == Entry::Write { &inputs.numbers(place, &sheet) } else { &sheet };
-        let answer = whole(entry, input);
-        let room = room(mixed(place, purpose as u64), &answer);
-        let call = Call { input: inputs.name(place), entry, room, expected: fit(answer, room) };
-        frames.extend(call.frame(input));
-        calls.push(call);
+/// What is called.
+pub struct Calls {
+    /// The inputs.
+    pub inputs: Inputs,
+    /// Whether a wrapper is called, which has a verdict besides, and not the entries.
+    pub wrapped: bool,
+}
+
+impl Calls {
+    /// Adds the calls of an input and their frames.
+    pub fn add(&self, place: u64, calls: &mut Vec<Call>, frames: &mut Vec<u8>) {
+        let (sheet, numbers) = self.inputs(place);
+        let (judged, written) = (Input::new(&sheet), Input::new(&numbers));
+        for (purpose, function) in self.functions(place, &sheet).into_iter().enumerate() {
+            let writes = function == Function::Entry(Entry::Write);
+            let (input, bytes) = if writes { (&written, &numbers) } else { (&judged, &sheet) };
+            let answer = function.whole(input);
+            let (room, expected) = if self.wrapped { (Room::Own, answer) } else { with_room(place, purpose, answer) };
+            let call = Call { input: self.inputs.name(place), function, room, expected };
+            frames.extend(call.frame(bytes));
+            calls.push(call);
+        }
     }
+
+    /// The functions that are called on a sheet.
+    fn functions(&self, place: u64, sheet: &[u8]) -> Vec<Function> {
+        let polygons = reading::read(sheet).map_or(2, |sheet| sheet.polygons.len() as u32);
+        let mut entries = vec![Entry::Numbers, Entry::Write, Entry::OwnerSets, Entry::Owners, Entry::Listing];
+        entries.extend(asked(&self.inputs, place, polygons).into_iter().map(Entry::Boundary));
+        let verdict = self.wrapped.then_some(Function::Verdict);
+        entries.into_iter().map(Function::Entry).chain(verdict).collect()
+    }
+
+    /// The sheet, and the write function's numbers, of which a wrapper takes whole ones.
+    fn inputs(&self, place: u64) -> (Vec<u8>, Vec<u8>) {
+        let sheet = self.inputs.sheet(place);
+        let mut numbers = self.inputs.numbers(place, &sheet);
+        if self.wrapped {
+            numbers.truncate(numbers.len() / 4 * 4);
+        }
+        (sheet, numbers)
+    }
+}
+
+/// The number of lent bytes for this call, and the answer with so many.
+fn with_room(place: u64, purpose: usize, answer: Result<Success, Refusal>) -> (Room, Result<Success, Refusal>) {
+    let room = room(mixed(place, purpose as u64), &answer);
+    (Room::Lent(room), fit(answer, room))
 }
 
 /// A number that a place and a purpose fix.
@@ -29,16 +62,16 @@ fn mixed(place: u64, purpose: u64) -> u64 {
     mixed ^ (mixed >> 32)
 }
 
-/// The polygon asked for: mostly one of the sheet's, else 0, the one after the last, 65 or 2^31.
-fn asked(place: u64, polygons: u32) -> u32 {
-    let number = mixed(place, 100);
-    match number % 16 {
-        0 => 0,
-        1 => polygons + 1,
-        2 => 65,
-        3 => 1 << 31,
-        _ => 1 + (number >> 32) as u32 % polygons.max(1),
+/// The polygons asked for. On one of the largest sheets: the first and the last of the sheet's, and all numbers that it
+/// hasn't and that a wrapper might take for one that it has. On another, one number: mostly of the sheet's, else of those.
+fn asked(inputs: &Inputs, place: u64, polygons: u32) -> Vec<u32> {
+    let others = [0, polygons + 1, 65, 257, 1 << 31, (1 << 31) + 1, u32::MAX];
+    if matches!(inputs, Inputs::Largest(_)) {
+        return [1, polygons].into_iter().chain(others).collect();
     }
+    let number = mixed(place, 100);
+    let one = 1 + (number >> 32) as u32 % polygons.max(1);
+    vec![others.get(number as usize % 24).copied().unwrap_or(one)]
 }
 
 /// The number of lent bytes: exact, one short, none, eight more, or 100,000.

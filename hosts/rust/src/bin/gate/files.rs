@@ -1,0 +1,153 @@
+//! Which files the gate looks at, and reading a sheet: from a regular file or from standard input, never more of it than reading can look at.
+use std::ffi::{OsStr, OsString};
+use std::fs::{File, FileType, Metadata, OpenOptions};
+use std::io::{self, Read};
+use std::os::unix::ffi::OsStrExt;
+use std::os::unix::fs::{FileTypeExt, OpenOptionsExt};
+use std::path::{Path, PathBuf};
+
+use sheets::READ_CAP;
+
+/// Linux's number for opening without waiting: a pipe that nobody writes to is open at once.
+const O_NONBLOCK: i32 = 0o4000;
+
+/// A file to look at: its name, and why it can't be read if that is known already.
+pub struct Candidate {
+    pub name: OsString,
+    pub unread: Option<String>,
+}
+
+/// What a folder has in it that is passed over, and why.
+pub struct Passed {
+    pub name: OsString,
+    pub why: &'static str,
+}
+
+/// The system's words for an error, as the checker says them.
+pub fn reason(error: &io::Error) -> String {
+    let text = error.to_string();
+    let number = error.raw_os_error().map_or(String::new(), |number| format!(" (os error {number})"));
+    text.strip_suffix(&number).unwrap_or(&text).to_string()
+}
+
+/// Why a file of this type is no sheet file; none for a regular one.
+fn irregular(kind: FileType) -> Option<&'static str> {
+    match kind {
+        kind if kind.is_file() => None,
+        kind if kind.is_dir() => Some("it is a folder"),
+        kind if kind.is_fifo() => Some("it is a pipe"),
+        kind if kind.is_socket() => Some("it is a socket"),
+        _ => Some("it is a device"),
+    }
+}
+
+fn expect_regular(found: io::Result<Metadata>) -> Result<(), String> {
+    match irregular(found.map_err(|error| reason(&error))?.file_type()) {
+        None => Ok(()),
+        Some(why) => Err(why.to_string()),
+    }
+}
+
+/// The bytes of an open file, all that reading can look at.
+fn first_bytes(file: impl Read) -> Result<Vec<u8>, String> {
+    let mut bytes = Vec::new();
+    file.take(READ_CAP as u64).read_to_end(&mut bytes).map_err(|error| reason(&error))?;
+    Ok(bytes)
+}
+
+/// The sheet in a file, or on standard input for '-'. The kind of the file is looked at before it is opened, so that no device is touched, and once it is
+/// open, so that no pipe put in its place is read.
+pub fn read(path: &OsStr) -> Result<Vec<u8>, String> {
+    if path == "-" {
+        return first_bytes(io::stdin().lock());
+    }
+    expect_regular(std::fs::metadata(path))?;
+    let file: File = OpenOptions::new().read(true).custom_flags(O_NONBLOCK).open(path).map_err(|error| reason(&error))?;
+    expect_regular(file.metadata())?;
+    first_bytes(file)
+}
+
+/// Does the name end as a sheet file's does?
+fn is_sheet_name(path: &Path) -> bool {
+    let name = path.as_os_str().as_bytes();
+    name.len() >= 4 && name[name.len() - 4..].eq_ignore_ascii_case(b".wkb")
+}
+
+/// What the words of the command come to, in their order, and the folders still to be looked into.
+#[derive(Default)]
+pub struct Found {
+    pub candidates: Vec<Candidate>,
+    pub passed: Vec<Passed>,
+    folders: Vec<PathBuf>,
+}
+
+impl Found {
+    fn take(&mut self, name: impl Into<OsString>) {
+        self.candidates.push(Candidate { name: name.into(), unread: None });
+    }
+
+    fn unread(&mut self, name: impl Into<OsString>, why: impl Into<String>) {
+        self.candidates.push(Candidate { name: name.into(), unread: Some(why.into()) });
+    }
+
+    fn pass(&mut self, name: impl Into<OsString>, why: &'static str) {
+        self.passed.push(Passed { name: name.into(), why });
+    }
+
+    /// Puts a thing in a folder where it belongs. A link stands for what it leads to; one that leads nowhere stands for a file.
+    fn place(&mut self, path: PathBuf, kind: FileType, flat: bool) {
+        let there = if kind.is_symlink() { std::fs::metadata(&path).ok().map(|there| there.file_type()) } else { Some(kind) };
+        let folder = there.is_some_and(|there| there.is_dir());
+        match there.and_then(irregular) {
+            Some(_) if folder && kind.is_symlink() => self.pass(path, "it is a link to a folder"),
+            Some(_) if folder && !flat => self.folders.push(path),
+            Some(_) if folder && !is_sheet_name(&path) => self.pass(path, "it is a folder, and --flat leaves those out"),
+            Some(why) => self.unread(path, why),
+            None if is_sheet_name(&path) => self.take(path),
+            None => self.pass(path, "its name doesn't end in .wkb"),
+        }
+    }
+
+    /// Goes over what one folder has in it.
+    fn look_into(&mut self, folder: &Path, flat: bool) {
+        let entries = match std::fs::read_dir(folder) {
+            Ok(entries) => entries,
+            Err(error) => return self.unread(folder, reason(&error)),
+        };
+        for entry in entries {
+            match entry.and_then(|entry| Ok((entry.path(), entry.file_type()?))) {
+                Ok((path, kind)) => self.place(path, kind, flat),
+                Err(error) => self.unread(folder, reason(&error)),
+            }
+        }
+    }
+}
+
+/// The sheet files of a folder and of those below it, by the bytes of their paths.
+fn of_folder(folder: &Path, flat: bool) -> Found {
+    let mut found = Found { folders: vec![folder.to_path_buf()], ..Found::default() };
+    while let Some(next) = found.folders.pop() {
+        found.look_into(&next, flat);
+    }
+    if found.candidates.is_empty() {
+        found.unread(folder, "there is no sheet in it, no file whose name ends in .wkb");
+    }
+    found.candidates.sort_by(|a, b| a.name.as_bytes().cmp(b.name.as_bytes()));
+    found.passed.sort_by(|a, b| a.name.as_bytes().cmp(b.name.as_bytes()));
+    found
+}
+
+/// What the paths of the command come to: a folder stands for the sheet files in it, anything else for itself.
+pub fn find(paths: &[OsString], flat: bool) -> Found {
+    let mut found = Found::default();
+    for path in paths {
+        if path != "-" && Path::new(path).is_dir() {
+            let below = of_folder(Path::new(path), flat);
+            found.candidates.extend(below.candidates);
+            found.passed.extend(below.passed);
+        } else {
+            found.take(path);
+        }
+    }
+    found
+}

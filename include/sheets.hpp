@@ -1,0 +1,183 @@
+// The entries of sheets.h as C++17 functions over ordinary types: the room for an answer is inside, and an empty input may come with any pointer.
+// The Rust crate has the same functions. Any number of threads may call them at once; a call needs 512 KiB of free stack.
+#ifndef SHEETS_HPP
+#define SHEETS_HPP
+
+#include "sheets.h"
+
+#include <cstddef>
+#include <cstdint>
+#include <stdexcept>
+#include <string>
+#include <utility>
+#include <vector>
+
+namespace sheets {
+
+using Bytes = std::vector<std::uint8_t>;
+
+// Why a call was refused: a code of refusals.def, and the member, triangle or polygon that it is about, 0 for none. Code 0: it was not.
+struct Refusal {
+    unsigned code = 0;
+    std::uint64_t item = 0;
+};
+
+// What a call answers: a value where it succeeded, else a refusal.
+template <class T>
+struct Answer {
+    Refusal refusal;
+    T value;
+    explicit operator bool() const { return refusal.code == 0; }
+};
+
+// A side from u to v, in millimetres.
+struct Side {
+    std::int32_t ux, uy, vx, vy;
+};
+
+// What a sheet is found to be: every triangle has exactly one owner; there are gaps or overlaps; or it was refused before repair.
+enum class Finding { Clean, Repair, Refused };
+
+struct Verdict {
+    Finding finding;
+    Refusal refusal;
+};
+
+// What the functions below share.
+namespace inside {
+
+// What the item of a refusal is.
+enum Item { NONE, MEMBER, TRIANGLE, POLYGON };
+
+struct Line {
+    unsigned code;
+    Item item;
+    const char *sentence;
+};
+
+constexpr Line lines[] = {
+#define SHEETS_REFUSAL(code, item, sentence) {code, item, sentence},
+#include "refusals.def"
+#undef SHEETS_REFUSAL
+};
+
+// The item of a refusal in words.
+inline std::string named(Item item, std::uint64_t number) {
+    std::string digits = std::to_string(number);
+    if (item == TRIANGLE) return "triangle " + digits;
+    if (item == POLYGON) return "polygon " + digits;
+    if (number == 0) return "the sheet's own header";
+    return number == 1 ? "member 1, the triangle table" : "member " + digits;
+}
+
+// An entry takes no null pointer, not for an empty input either.
+inline const std::uint8_t *given(const std::uint8_t *bytes, std::size_t size) {
+    static const std::uint8_t none = 0;
+    return size == 0 ? &none : bytes;
+}
+
+// The answer of an entry, which has `size` bytes for each one that its item counts.
+template <class Entry>
+Answer<Bytes> call(std::size_t room, std::size_t size, Entry entry) {
+    Bytes lent(room);
+    std::uint64_t answer = entry(lent.data(), lent.size());
+    if (SHEETS_CODE(answer) != 0) return {{SHEETS_CODE(answer), SHEETS_ITEM(answer)}, {}};
+    lent.resize(size * static_cast<std::size_t>(SHEETS_ITEM(answer)));
+    return {{}, std::move(lent)};
+}
+
+// The number that little-endian bytes stand for.
+template <class Number>
+Number little(const std::uint8_t *bytes) {
+    std::uint64_t number = 0;
+    for (std::size_t k = 0; k < sizeof(Number); k++) number |= static_cast<std::uint64_t>(bytes[k]) << 8 * k;
+    return static_cast<Number>(number);
+}
+
+// The numbers that little-endian bytes stand for, one after the other.
+template <class Number>
+std::vector<Number> numbers_of(const Bytes &bytes) {
+    std::vector<Number> numbers;
+    for (std::size_t at = 0; at < bytes.size(); at += sizeof(Number)) numbers.push_back(little<Number>(&bytes[at]));
+    return numbers;
+}
+
+}  // namespace inside
+
+// The refusal in words.
+inline std::string sentence(Refusal refusal) {
+    for (const inside::Line &line : inside::lines) {
+        if (line.code != refusal.code) continue;
+        std::string text = line.sentence;
+        std::size_t place = text.find("{}");
+        return place == std::string::npos ? text : text.replace(place, 2, inside::named(line.item, refusal.item));
+    }
+    return "the library has no refusal " + std::to_string(refusal.code);
+}
+
+// The sheet in numbers: the triangle count and six numbers each, the polygon count, then for each its parts, rings and points, every count before what it
+// counts, rings closed.
+inline Answer<std::vector<std::int32_t>> numbers(const std::uint8_t *sheet, std::size_t size) {
+    Answer<Bytes> answer = inside::call(SHEETS_NUMBERS_ROOM, 1, [&](std::uint8_t *lent, std::size_t room) {
+        return sheet_numbers(inside::given(sheet, size), size, lent, room);
+    });
+    return {answer.refusal, inside::numbers_of<std::int32_t>(answer.value)};
+}
+
+// The bytes of the sheet that the numbers make up, in one normal form.
+inline Answer<Bytes> write(const std::vector<std::int32_t> &numbers) {
+    Bytes given;
+    for (std::int32_t number : numbers)
+        for (int k = 0; k < 4; k++) given.push_back(static_cast<std::uint8_t>(static_cast<std::uint32_t>(number) >> 8 * k));
+    return inside::call(SHEETS_WRITE_ROOM, 1, [&](std::uint8_t *lent, std::size_t room) {
+        return sheet_write(inside::given(given.data(), given.size()), given.size(), lent, room);
+    });
+}
+
+// The owners of each triangle before repair: bit k - 1 stands for polygon k.
+inline Answer<std::vector<std::uint64_t>> owner_sets(const std::uint8_t *sheet, std::size_t size) {
+    Answer<Bytes> answer = inside::call(SHEETS_OWNER_SETS_ROOM, 8, [&](std::uint8_t *lent, std::size_t room) {
+        return sheet_owner_sets(inside::given(sheet, size), size, lent, room);
+    });
+    return {answer.refusal, inside::numbers_of<std::uint64_t>(answer.value)};
+}
+
+// The number of each triangle after repair.
+inline Answer<Bytes> owners(const std::uint8_t *sheet, std::size_t size) {
+    return inside::call(SHEETS_OWNERS_ROOM, 1, [&](std::uint8_t *lent, std::size_t room) {
+        return sheet_owners(inside::given(sheet, size), size, lent, room);
+    });
+}
+
+// The boundary sides of a polygon after repair.
+inline Answer<std::vector<Side>> boundary(const std::uint8_t *sheet, std::size_t size, std::uint32_t polygon) {
+    Answer<Bytes> answer = inside::call(SHEETS_BOUNDARY_ROOM, 16, [&](std::uint8_t *lent, std::size_t room) {
+        return sheet_boundary(inside::given(sheet, size), size, polygon, lent, room);
+    });
+    std::vector<std::int32_t> numbers = inside::numbers_of<std::int32_t>(answer.value);
+    std::vector<Side> sides;
+    for (std::size_t at = 0; at < numbers.size(); at += 4) sides.push_back({numbers[at], numbers[at + 1], numbers[at + 2], numbers[at + 3]});
+    return {answer.refusal, sides};
+}
+
+// The printed listing; a refused sheet has one, too.
+inline std::string listing(const std::uint8_t *sheet, std::size_t size) {
+    Answer<Bytes> answer = inside::call(SHEETS_LISTING_ROOM, 1, [&](std::uint8_t *lent, std::size_t room) {
+        return sheet_listing(inside::given(sheet, size), size, lent, room);
+    });
+    if (!answer) throw std::logic_error("the room is enough for every listing");
+    return std::string(answer.value.begin(), answer.value.end());
+}
+
+// The verdict on a sheet.
+inline Verdict verdict(const std::uint8_t *sheet, std::size_t size) {
+    Answer<std::vector<std::uint64_t>> sets = owner_sets(sheet, size);
+    if (!sets) return {Finding::Refused, sets.refusal};
+    for (std::uint64_t set : sets.value)
+        if (set == 0 || (set & (set - 1)) != 0) return {Finding::Repair, {}};
+    return {Finding::Clean, {}};
+}
+
+}  // namespace sheets
+
+#endif

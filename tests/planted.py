@@ -1,0 +1,129 @@
+#!/usr/bin/env python3
+"""Faults planted in the hosts are noticed: each hosts/planted/*.edit goes into a copy, which is built, and the smallest test that is to notice it must fail.
+
+    python3 tests/planted.py DIFFER CHECKER GATE FOLDER    'N passed, M failed'; FOLDER has a few sheets, one of them with more than 1,000 bytes of listing
+
+An edit is written as those of crates/*/must-fail: `file:`, and then `old:`, which stands there once, and `new:`. The copy without an edit must pass first. A text
+that isn't found, a copy that can't be built and a fault that nothing notices are failures. CHECKER and GATE are commands, built from the hosts as they are.
+"""
+import concurrent.futures
+import glob
+import os
+import re
+import shutil
+import subprocess
+import sys
+
+import frames
+
+ROOT = os.path.dirname(os.path.dirname(os.path.abspath(__file__)))
+BUILD = os.path.join(ROOT, "target", "hosts", "planted")
+TARGET, RUN = os.environ.get("TARGET", "x86_64-unknown-linux-gnu"), os.environ.get("RUN", "")
+# What is built and tested for a fault in a file, by how the file's path begins; and which of the two copies has it.
+PARTS = (("include/", "header", "cpp"), ("hosts/cpp/", "checker", "cpp"), ("hosts/rust/src/bin/", "gate", "rust"), ("hosts/rust/", "crate", "rust"))
+
+
+def edits():
+    """Each edit's name, file, old text and new text."""
+    for path in sorted(glob.glob(os.path.join(ROOT, "hosts", "planted", "*.edit"))):
+        with open(path, encoding="utf-8") as f:
+            words = dict(re.findall(r"^(file|old|new): (.*)$", f.read(), re.M))
+        yield os.path.basename(path)[:-5], words["file"], words["old"], words["new"]
+
+
+def part_of(file):
+    """The part and the copy for a fault in this file."""
+    return next((part, copy) for start, part, copy in PARTS if file.startswith(start))
+
+
+class Copy:
+    """A copy of the hosts, and what is built of it."""
+
+    def __init__(self, name, differ, checker, gate, folder):
+        self.tree, self.made = os.path.join(BUILD, name, "tree"), os.path.join(BUILD, name, "made")
+        self.differ, self.checker, self.gate, self.folder = differ, checker, gate, folder
+        shutil.rmtree(os.path.join(BUILD, name), ignore_errors=True)
+        for part in ("include", "hosts/cpp", "hosts/rust", "hosts/beside", "hosts/independent"):
+            shutil.copytree(os.path.join(ROOT, part), os.path.join(self.tree, part), ignore=shutil.ignore_patterns("target"))
+        os.makedirs(os.path.join(self.tree, "target"))
+        os.symlink(os.path.join(ROOT, "target", "staticlib"), os.path.join(self.tree, "target", "staticlib"))
+
+    def path(self, file):
+        return os.path.join(self.tree, file)
+
+    def made_by_cargo(self, program):
+        return ("%s %s" % (RUN, os.path.join(self.made, TARGET, "debug", program))).strip()
+
+    def made_by_cmake(self, program):
+        return ("%s %s" % (RUN, os.path.join(self.made, program))).strip()
+
+    def build(self, part):
+        """The commands that build a part."""
+        if part in ("header", "checker"):
+            return [["cmake", "-S", self.path("hosts/cpp"), "-B", self.made, "-DCMAKE_BUILD_TYPE=None"],
+                    ["cmake", "--build", self.made, "--target", "bridge" if part == "header" else "checker"]]
+        manifest, program = ("hosts/beside", "bridge") if part == "crate" else ("hosts/rust", "gate")
+        built = ["--manifest-path", self.path(manifest + "/Cargo.toml"), "--bin", program]
+        return [["cargo", "build", "--quiet", "--target", TARGET, "--target-dir", self.made, *built]]
+
+    def test(self, part):
+        """The command that tests a part."""
+        sheets = [sys.executable, os.path.join(ROOT, "tests", "programs.py"), "--sheets"]
+        return {
+            "header": [self.differ, "--wrapped", self.made_by_cmake("bridge"), "largest", "5"],
+            "crate": [self.differ, "--wrapped", self.made_by_cargo("bridge"), "largest", "5"],
+            "checker": [*sheets, self.made_by_cmake("checker"), self.gate, self.folder],
+            "gate": [*sheets, self.checker, self.made_by_cargo("gate"), self.folder],
+        }[part]
+
+    def tried(self, part):
+        """What became of the part as it stands: 'not built', 'passed', 'failed', or 'broken' where the test doesn't say."""
+        for command in self.build(part):
+            built = subprocess.run(command, capture_output=True, text=True)
+            if built.returncode != 0:
+                print(built.stdout + built.stderr)
+                return "not built"
+        tested = subprocess.run(self.test(part), capture_output=True, text=True)
+        told = re.search(r"(\d+) passed, (\d+) failed\n$", tested.stdout)
+        if told is None or (tested.returncode == 0) != (told[2] == "0"):
+            print(tested.stdout + tested.stderr)
+            return "broken"
+        return "failed" if tested.returncode else "passed"
+
+    def planted(self, name, file, old, new):
+        """Is the fault noticed?"""
+        with open(self.path(file), encoding="utf-8") as f:
+            text = f.read()
+        if text.count(old) != 1:
+            print("%s: the text stands %d times in %s" % (name, text.count(old), file))
+            return False
+        try:
+            with open(self.path(file), "w", encoding="utf-8") as f:
+                f.write(text.replace(old, new))
+            became = self.tried(part_of(file)[0])
+        finally:
+            with open(self.path(file), "w", encoding="utf-8") as f:
+                f.write(text)
+        print("%s: %s" % (name, "noticed" if became == "failed" else "NOT NOTICED: " + became))
+        return became == "failed"
+
+    def outcomes(self, chosen):
+        """Do the parts pass without a fault, and is each of these faults noticed?"""
+        outcomes = []
+        for part in sorted({part_of(file)[0] for _, file, _, _ in chosen}):
+            became = self.tried(part)
+            print("%s without a fault: %s" % (part, became))
+            outcomes.append(became == "passed")
+        return outcomes + [self.planted(*edit) for edit in chosen]
+
+
+def main(differ, checker, gate, folder):
+    """Both copies beside each other."""
+    chosen = {name: [edit for edit in edits() if part_of(edit[1])[1] == name] for name in ("cpp", "rust")}
+    with concurrent.futures.ThreadPoolExecutor() as pool:
+        begun = [pool.submit(Copy(name, differ, checker, gate, folder).outcomes, some) for name, some in chosen.items()]
+        return frames.tally([all(chosen.values())] + [outcome for each in begun for outcome in each.result()])
+
+
+if __name__ == "__main__":
+    sys.exit(main(*sys.argv[1:]))
