@@ -36,7 +36,7 @@ extern "C" {
 
 /* Room that is always enough for the answer. */
 #define SHEETS_NUMBERS_ROOM 65800
-#define SHEETS_WRITE_ROOM 160000
+#define SHEETS_WRITE_ROOM 158290
 #define SHEETS_OWNER_SETS_ROOM 8192
 #define SHEETS_OWNERS_ROOM 1024
 #define SHEETS_BOUNDARY_ROOM 49152

@@ -14,7 +14,8 @@ use Rattle.plane.specs.Points.{Edge, flip, sameEdge}
 use Rattle.plane.specs.Keys.{pair, pairs}
 use Rattle.plane.proofs.Points.{sameEdge-eq, sameEdge-refl}
 use Rattle.plane.proofs.Keys.{pointAt-injective}
-use Rattle.table.specs.Sides.{tailsOf, later, foundAt, opposites}
+use Rattle.table.specs.Sides.{tailsOf}
+use Rattle.table.specs.Opposites.{later, foundAt, opposites}
 use Rattle.ascending.specs.Ascending.{Ascending, Stands, placeOf, ascending}
 use Rattle.ascending.proofs.Ascending.{ascending-is, ascending-has, length-ascending, place-found}
 use Rattle.across.specs.Codes.{codeOf, turned, codesOf, numberIn, turnedIn}

@@ -1,16 +1,17 @@
--- Codes with their numbers, in ascending order: the first number that is not below a code times 4096 is that code's with its least number,
--- where the code has one. Assumes nothing.
+-- A code looked up among numbers in ascending order: it can stand only from the place of the code times 4096 on. In the index of codes what stands
+-- there is the code with its least number, where the code has one. Assumes nothing.
 use mathlib.Core.Path.{_≡_, refl, sym, _∙_, ap, subst}
 use mathlib.Core.Bool.{Bool, true, false}
 use mathlib.Core.List.{List, [], _∷_}
 use Prim.Native.Nat.{ℕ, zero, suc, _+_, _*_, _/_, _%_, _≤_, _<_}
 use native.Mathlib.Omega.{arith}
+use native.Mathlib.Decide.{ℕ-discrete, decLe}
 use borrow.Author.Tests.{ltb-true, ltb-false, eq-eqb, ne-eqb}
 use lib.Dec.{ltb}
 use lib.ListN.{length, getD}
 use Rattle.ascending.specs.Ascending.{Ascending, Stands, Distinct, placeOf, ascending}
-use Rattle.ascending.proofs.Ascending.{ascending-is, ascending-has, ascending-below, ascending-distinct, place-above, place-up-to}
-use Rattle.across.specs.Codes.{numberedFrom, indexOf, numberIn}
+use Rattle.ascending.proofs.Ascending.{ascending-is, ascending-has, ascending-below, ascending-distinct, place-below, place-above, place-up-to}
+use Rattle.across.specs.Codes.{numberedFrom, indexOf, sideIn, numberIn}
 
 -- ---- codes with their numbers
 pub length-numbered : (i : ℕ) (l : List ℕ) → length (numberedFrom i l) ≡ length l
@@ -63,6 +64,16 @@ number-none : (l : List ℕ) (c : ℕ) → ((j : ℕ) → j < length l → getD 
 number-none [] c n = refl
 number-none (x ∷ l) c n = rw (ne-eqb x c (n 0 (omega arith)), number-none l c (λ j h. n (suc j) (omega arith)))
 
+-- ---- the first of a code in an index
+side-first : (l : List ℕ) (c p : ℕ) → p < length l → getD l p 0 / 4096 ≡ c → ((i : ℕ) → i < p → getD l i 0 / 4096 ≡ c → ⊥) → sideIn c l ≡ getD l p 0 % 4096 + 1
+side-first [] c p h e n = absurd (omega arith)
+side-first (x ∷ l) c zero h e n = rw (eq-eqb (x / 4096) c e)
+side-first (x ∷ l) c (suc p) h e n = rw (ne-eqb (x / 4096) c (n 0 (omega arith)), side-first l c p (omega arith) e (λ i g. n (suc i) (omega arith)))
+
+side-none : (l : List ℕ) (c : ℕ) → ((i : ℕ) → i < length l → getD l i 0 / 4096 ≡ c → ⊥) → sideIn c l ≡ 0
+side-none [] c n = refl
+side-none (x ∷ l) c n = rw (ne-eqb (x / 4096) c (n 0 (omega arith)), side-none l c (λ i h. n (suc i) (omega arith)))
+
 -- ---- looking a code up
 not-above : (l : List ℕ) (i j : ℕ) → Ascending l → i ≤ j → j < length l → getD l i 0 ≤ getD l j 0
 not-above l i j a h k = go (ltb i j) refl
@@ -71,29 +82,55 @@ not-above l i j a h k = go (ltb i j) refl
     go true e = omega (arith, ascending-below l i j a (ltb-true i j e) k)
     go false e = let s : i ≡ j = omega (arith, ltb-false i j e) in rw s (omega arith)
 
-module _ (codes : List ℕ) (few : length codes ≤ 4096) (c : ℕ) (l : List ℕ) (is : l ≡ indexOf codes) (p : ℕ) (at : p ≡ placeOf (c * 4096) l) where
-  order : Ascending l
-  order = subst Ascending (sym is) (index-ascending codes)
+-- In an ascending list the code can stand only from the place of the code times 4096 on, and nowhere else where it doesn't stand there.
+module _ (l : List ℕ) (c : ℕ) (order : Ascending l) (p : ℕ) (at : p ≡ placeOf (c * 4096) l) where
+  not-before : (i : ℕ) → i < p → getD l i 0 / 4096 ≡ c → ⊥
+  not-before i h e = omega (arith, place-below l (c * 4096) i order (omega arith))
 
-  -- Each number of the code stands at the place of the code or behind it.
-  behind : (j : ℕ) → j < length codes → getD codes j 0 ≡ c → (p < length l) × (c * 4096 ≤ getD l p 0) × (getD l p 0 ≤ c * 4096 + j)
-  behind j h e =
-      let s : Stands (c * 4096 + j) l = subst (λ x. Stands (x * 4096 + j) l) e (subst (Stands (getD codes j 0 * 4096 + j)) (sym is) (index-to codes j h)) in
-      let u : placeOf (c * 4096) l ≤ s .0 = place-up-to l (c * 4096) (s .0) order (omega (arith, s .2)) in
-      let q : p < length l = omega (arith, s .1) in
-      (q, place-above l (c * 4096) p order (omega arith) q, omega (arith, not-above l p (s .0) order (omega arith) (s .1), s .2))
+  from-place : (i : ℕ) → i < length l → getD l i 0 / 4096 ≡ c → (p < length l) × (getD l p 0 ≤ getD l i 0) × (getD l p 0 / 4096 ≡ c)
+  from-place i h e =
+      let u : p ≤ i = omega (arith, place-up-to l (c * 4096) i order (omega arith)) in
+      let q = not-above l p i order u h in
+      (omega arith, q, omega (arith, place-above l (c * 4096) p order (omega arith) (omega arith)))
 
-  -- So what stands at the place tells the code's first number,
-  pub side-found : p < length l → getD l p 0 / 4096 ≡ c → getD l p 0 % 4096 + 1 ≡ numberIn c codes
-  side-found h e =
-      let f : (j : ℕ) × (j < length codes) × (getD l p 0 ≡ getD codes j 0 * 4096 + j)
-      = subst (λ l. p < length l → (j : ℕ) × (j < length codes) × (getD l p 0 ≡ getD codes j 0 * 4096 + j)) (sym is) (index-from codes p) h in
+  pub side-found : p < length l → getD l p 0 / 4096 ≡ c → getD l p 0 % 4096 + 1 ≡ sideIn c l
+  side-found h e = sym (side-first l c p h e not-before)
+
+  pub side-other : (getD l p 0 / 4096 ≡ c → ⊥) → 0 ≡ sideIn c l
+  side-other n = sym (side-none l c (λ i h e. n (from-place i h e .2)))
+
+  pub side-past : length l ≤ p → 0 ≡ sideIn c l
+  side-past g = sym (side-none l c (λ i h e. not-before i (omega arith) e))
+
+-- In the index of codes the first of a code stands with the code's first number.
+module _ (codes : List ℕ) (few : length codes ≤ 4096) (c : ℕ) where
+  abbrev place : ℕ
+  place = placeOf (c * 4096) (indexOf codes)
+
+  entry : (j : ℕ) → j < length codes → getD codes j 0 ≡ c → Stands (c * 4096 + j) (indexOf codes)
+  entry j h e = subst (λ x. Stands (x * 4096 + j) (indexOf codes)) e (index-to codes j h)
+
+  first-there : place < length (indexOf codes) → getD (indexOf codes) place 0 / 4096 ≡ c → getD (indexOf codes) place 0 % 4096 + 1 ≡ numberIn c codes
+  first-there h e =
+      let f = index-from codes place h in
       let y : getD codes (f .0) 0 ≡ c = omega (arith, f .1, f .2) in
-      omega (arith, f .1, f .2, number-first codes c (f .0) (f .1) y (λ k g t. omega (arith, behind k g t .2, f .2)))
+      let least : (k : ℕ) → k < length codes → getD codes k 0 ≡ c → f .0 ≤ k
+      = λ k g t. let s = entry k g t in omega (arith, f .2, s .2, from-place (indexOf codes) c (index-ascending codes) place refl (s .0) (s .1) (omega (arith, s .2)) .1) in
+      omega (arith, f .1, f .2, number-first codes c (f .0) (f .1) y least)
 
-  -- or that it has none.
-  pub side-other : (getD l p 0 / 4096 ≡ c → ⊥) → 0 ≡ numberIn c codes
-  side-other n = sym (number-none codes c (λ j h e. let b = behind j h e in n (omega (arith, b .1, b .2))))
+  none-there : (place < length (indexOf codes) → getD (indexOf codes) place 0 / 4096 ≡ c → ⊥) → 0 ≡ numberIn c codes
+  none-there n =
+      sym
+      (number-none codes c
+      (λ j h e.
+      let s = entry j h e in
+      let b = from-place (indexOf codes) c (index-ascending codes) place refl (s .0) (s .1) (omega (arith, s .2)) in
+      n (b .0) (b .2)))
 
-  pub side-past : length l ≤ p → 0 ≡ numberIn c codes
-  side-past g = sym (number-none codes c (λ j h e. let b = behind j h e in omega (arith, b .0)))
+  pub side-number : sideIn c (indexOf codes) ≡ numberIn c codes
+  side-number = go (decLe (length (indexOf codes)) place) (ℕ-discrete (getD (indexOf codes) place 0 / 4096) c)
+    where
+      go : Dec (length (indexOf codes) ≤ place) → Dec (getD (indexOf codes) place 0 / 4096 ≡ c) → sideIn c (indexOf codes) ≡ numberIn c codes
+      go (yes g) d = sym (side-past (indexOf codes) c (index-ascending codes) place refl g) ∙ none-there (λ h. absurd (omega arith))
+      go (no g) (yes e) = sym (side-found (indexOf codes) c (index-ascending codes) place refl (omega arith) e) ∙ first-there (omega arith) e
+      go (no g) (no n) = sym (side-other (indexOf codes) c (index-ascending codes) place refl n) ∙ none-there (λ h. n)

@@ -4,7 +4,7 @@ use mathlib.Core.List.{List, [], _∷_, map}
 use Prim.Native.Nat.{ℕ, suc, _+_, _*_, _/_, _%_}
 use lib.Dec.{eqb}
 use Rattle.ascending.specs.Ascending.{placeOf, ascending}
-use Rattle.table.specs.Sides.{later}
+use Rattle.table.specs.Opposites.{later}
 
 -- The code of the ordered pair of two corners; a table has at most 3,072 of them.
 abbrev pub codeOf : List ℕ → ℕ → ℕ → ℕ
@@ -27,6 +27,11 @@ numberedFrom i (c ∷ l) = (c * 4096 + i) ∷ numberedFrom (suc i) l
 
 unfoldable pub indexOf : List ℕ → List ℕ
 indexOf codes = ascending (numberedFrom 0 codes)
+
+-- The number, counted from 1, that stands with the first of a code in such a list; 0 where the code doesn't stand there.
+abbrev pub sideIn : ℕ → List ℕ → ℕ
+sideIn c [] = 0
+sideIn c (x ∷ index) = cond (eqb (x / 4096) c) (x % 4096 + 1) (sideIn c index)
 
 -- The number, counted from 1, of the first in a list that is c; 0 where there is none.
 abbrev pub numberIn : ℕ → List ℕ → ℕ

@@ -1,10 +1,8 @@
 // The number of a side of a table, looked up by the code of its two corners.
 ghost use mathlib.Core.Path.{_≡_};
-ghost use mathlib.Core.List.{List};
-ghost use Prim.Native.Nat.{ℕ, _+_, _*_, _^_, _≤_, _<_};
-ghost use lib.ListN.{length};
+ghost use Prim.Native.Nat.{_+_, _*_, _^_, _≤_, _<_};
 ghost use Rattle.ascending.specs.Ascending.{Ascending};
-ghost use Rattle.across.specs.Codes.{indexOf, numberIn};
+ghost use Rattle.across.specs.Codes.{sideIn};
 
 // The code of an ordered pair of corners, by their places among the ascending ones.
 pub fn code(u: usize, v: usize) -> u64
@@ -14,10 +12,10 @@ pub fn code(u: usize, v: usize) -> u64
     u as u64 * 4096 + v as u64
 }
 
-// The number, counted from 1, of the side with this code; 0 where there is none.
+// The number, counted from 1, of the side with this code, by an index of sides; 0 where there is none.
 pub fn side_of(index: &[u64], code: u64) -> usize
     requires { ⌜ Ascending (now index) × (code < 2 ^ 25) ⌝ }
-    ensures { λ r. ⌜ ((codes : List ℕ) → length codes ≤ 4096 → now (index .entry) ≡ indexOf codes → r ≡ numberIn code codes) ⌝ }
+    ensures { λ r. ⌜ r ≡ sideIn code (now (index .entry)) ⌝ }
 {
     let at = ascending::place(index, code * 4096);
     if at < index.len() {

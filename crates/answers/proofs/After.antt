@@ -1,5 +1,5 @@
 -- What repair answered, against what is answered after it. Assumes nothing.
-use mathlib.Core.Path.{_≡_, sym, _∙_, ap}
+use mathlib.Core.Path.{_≡_, ap}
 use mathlib.Core.Bool.{Bool, true, false, not}
 use mathlib.Core.List.{List, _++_}
 use mathlib.Core.Option.{some}
@@ -11,22 +11,24 @@ use lib.Seq.{take-at}
 use Rattle.whole.specs.Sums.{All}
 use Rattle.whole.proofs.Sums.{all-map}
 use Rattle.lent.specs.Answered.{Outcome, refusal}
-use Rattle.little.specs.Bytes.{SideIn}
+use Rattle.little.specs.Held.{SideIn}
 use Rattle.regions.specs.Spreading.{Paired}
-use Rattle.repair.specs.Repair.{repaired, repairedAs}
+use Rattle.repair.specs.Repair.{repaired}
+use Rattle.repair.specs.Giving.{RepairedTo}
+use Rattle.repair.proofs.Giving.{answered-true, answered-false}
 use Rattle.repair.proofs.OneOwner.{repaired-length, repaired-small}
-use Rattle.bounding.specs.Sides.{boundaryNumbers}
+use Rattle.bounding.specs.Numbered.{boundaryNumbers}
 use Rattle.bounding.proofs.Laying.{bounding-below}
 use Rattle.answers.specs.Answers.{afterRepair}
 
-module _ (opposite sets : List ℕ) (r : Bool) (owners : List ℕ) (e : repairedAs r owners ≡ repaired opposite sets) where
+module _ (opposite sets : List ℕ) {lent : List ℕ} (r : Bool) (owners : List ℕ) (e : RepairedTo (repaired opposite sets) lent r owners) where
   -- 30 where repair can't be done.
   pub not-repaired : (next : List ℕ → Outcome) → not r ≡ true → afterRepair next (repaired opposite sets) ≡ refusal 30 0
-  not-repaired next f = ap (afterRepair next) (sym e ∙ ap (λ b. repairedAs b owners) (not-true r f))
+  not-repaired next f = ap (afterRepair next) (answered-false (repaired opposite sets) e (not-true r f))
 
   module _ (t : not r ≡ false) where
     repaired-to : repaired opposite sets ≡ some owners
-    repaired-to = sym e ∙ ap (λ b. repairedAs b owners) (not-false r t)
+    repaired-to = answered-true (repaired opposite sets) e (not-false r t)
 
     -- Else it goes on with the owner numbers, one for each triangle, each a byte.
     pub goes-on : (next : List ℕ → Outcome) → afterRepair next (repaired opposite sets) ≡ next owners

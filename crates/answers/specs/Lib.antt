@@ -1,2 +1,3 @@
 -- What is answered after repair.
 pub mod Answers
+pub mod Held

@@ -14,7 +14,7 @@ use lib.Dec.{T, eqb, eqb→eq, eqb-refl}
 use lib.IntN.{ℤ, pos, _+ℤ_, +ℤ-idl, +ℤ-idr}
 use lib.Signed.{_≤ℤ_}
 use lib.ListN.{length, getD, length-map}
-use Rattle.whole.specs.Sums.{All, Among, any, bit, count, net, sum}
+use Rattle.whole.specs.Sums.{All, Among, any, bit, count, net, sum, passing}
 use Rattle.whole.specs.Polynomials.{_:+_, _:=_}
 use Rattle.whole.proofs.Int.{zify}
 use Rattle.whole.proofs.Ring.{solve}
@@ -27,10 +27,12 @@ use Rattle.plane.proofs.Boundaries.{areas, cross-flip, cross-adds}
 use Rattle.plane.proofs.Cuts.{pieces-sum}
 use Rattle.table.specs.Table.{corners, frame, RuleB, RuleC}
 use Rattle.table.specs.Sets.{SetOf, chosen}
-use Rattle.table.specs.Sides.{trianglesOf, sideAt, opposites, across}
+use Rattle.table.specs.Sides.{trianglesOf, sideAt, across}
+use Rattle.table.specs.Opposites.{opposites}
 use Rattle.table.proofs.Shares.{length-triangles, length-opposites, opposite-some, side-count, share-is, fewer-sides}
 use Rattle.regions.specs.Regions.{from}
-use Rattle.bounding.specs.Sides.{passing, unmatched, boundarySides, ownedBy, trianglesOwned, ownsAcross, bounds, boundaryNumbers}
+use Rattle.bounding.specs.Sides.{unmatched, boundarySides, ownedBy, trianglesOwned}
+use Rattle.bounding.specs.Numbered.{ownsAcross, bounds, boundaryNumbers}
 
 -- How often a pair stands in a list.
 abbrev # : Edge → List Edge → ℕ

@@ -7,11 +7,11 @@ use Prim.Native.Nat.{ℕ, zero, suc, _+_, _-_, _/_, _≤_, _<_}
 use native.Mathlib.Omega.{arith}
 use borrow.Author.Tests.{eq-eqb, ne-eqb}
 use lib.Dec.{eqb}
-use lib.ListN.{length, getD, take, set}
-use lib.Seq.{take-suc-set}
-use Rattle.whole.specs.Sums.{All}
+use lib.ListN.{length, getD, take, drop, set, length-append, take-append-drop}
+use lib.Seq.{length-take-le, take-at, take-suc-set, drop-set-lt, drop-drop}
+use Rattle.whole.specs.Sums.{All, passing}
 use Rattle.regions.specs.Regions.{from}
-use Rattle.bounding.specs.Sides.{passing, ownsAcross, bounds, boundaryNumbers}
+use Rattle.bounding.specs.Numbered.{ownsAcross, bounds, boundaryNumbers, LaidDown}
 
 -- ---- one side
 module _ (opposite owners : List ℕ) (polygon k : ℕ) where
@@ -62,6 +62,17 @@ module _ (test : ℕ → Bool) where
   -- All are laid down.
   pub laid-all : (out : List ℕ) (n k m : ℕ) → m ≤ k → laid out n k m ≡ take n out
   laid-all out n k m h = let z : m - k ≡ 0 = omega arith in ap (λ i. take n out ++ passing test (from k i)) z ∙ append-nil (take n out)
+
+-- ---- a list laid down at the front of another
+-- One more is laid down, and what stands behind is as it was.
+pub rest-kept : (out out₀ : List ℕ) (n x : ℕ) → drop n out ≡ drop n out₀ → drop (n + 1) (set out n x) ≡ drop (n + 1) out₀
+rest-kept out out₀ n x e = drop-set-lt (n + 1) out n x (omega arith) ∙ sym (drop-drop 1 n out) ∙ ap (drop 1) e ∙ drop-drop 1 n out₀
+
+pub laid-front : {l out out₀ : List ℕ} {n : ℕ} → n ≤ length out → take n out ≡ l → drop n out ≡ drop n out₀ → LaidDown l out₀ n out
+laid-front {out = out} {n = n} h e f = record { many = sym (length-take-le n out h) ∙ ap length e; left = sym (take-append-drop n out) ∙ ap₂ _++_ e f }
+
+pub front-laid : {l out out₀ : List ℕ} {n : ℕ} → LaidDown l out₀ n out → (n ≤ length out) × (take n out ≡ l)
+front-laid {l} {out₀ = out₀} {n = n} e = (omega (arith, e .many, ap length (e .left), length-append l (drop n out₀)), ap (take n) (e .left) ∙ take-at l (drop n out₀) n (sym (e .many)))
 
 -- ---- the numbers of boundary sides
 all-passing : {A : Type 0} (P : A → Type 0) (test : A → Bool) (l : List A) → All P l → All P (passing test l)

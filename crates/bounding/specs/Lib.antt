@@ -1,2 +1,3 @@
 -- The boundary sides of a polygon after repair.
 pub mod Sides
+pub mod Numbered

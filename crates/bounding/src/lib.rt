@@ -1,9 +1,9 @@
 // The boundary sides of a polygon after repair.
 ghost use mathlib.Core.Path.{_≡_};
-ghost use Prim.Native.Nat.{_≤_, _<_};
-ghost use lib.ListN.{length, take};
+ghost use Prim.Native.Nat.{_<_};
+ghost use lib.ListN.{length};
 ghost use Rattle.regions.specs.Spreading.{Paired};
-ghost use Rattle.bounding.specs.Sides.{bounds, boundaryNumbers};
+ghost use Rattle.bounding.specs.Numbered.{bounds, boundaryNumbers, LaidDown};
 
 // Side k bounds the polygon: its own triangle is the polygon's, and the one across is not.
 fn is_bound(opposite: &[usize], owners: &[usize], polygon: usize, k: usize) -> bool
@@ -20,10 +20,10 @@ fn is_bound(opposite: &[usize], owners: &[usize], polygon: usize, k: usize) -> b
     owners[(o - 1) / 3] != polygon
 }
 
-// The boundary sides of a polygon by number, laid down at the front of the lent ones.
+// The boundary sides of a polygon by number, laid down at the front of the lent ones; those behind them are as they were.
 pub fn boundary(opposite: &[usize], owners: &[usize], polygon: usize, sides: &mut [usize]) -> usize
     requires { ⌜ Paired (now opposite) (length (now owners)) × (length (now sides) ≡ length (now opposite)) ⌝ }
-    ensures { λ r. ⌜ (r ≤ length (now (sides .entry))) × (take r (now (sides .exit)) ≡ boundaryNumbers (now (opposite .entry)) (now (owners .entry)) polygon) ⌝ }
+    ensures { λ r. ⌜ LaidDown (boundaryNumbers (now (opposite .entry)) (now (owners .entry)) polygon) (now (sides .entry)) r (now (sides .exit)) ⌝ }
 {
     let mut n: usize = 0;
     let mut k: usize = 0;

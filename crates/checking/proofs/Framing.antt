@@ -7,7 +7,7 @@ use Prim.Native.Nat.{ℕ}
 use native.Mathlib.Omega.{arith}
 use lib.Dec.{T}
 use lib.ListN.{length}
-use Rattle.whole.specs.Numbers.{Told}
+use Rattle.whole.specs.Tests.{Told}
 use Rattle.whole.specs.Sums.{All}
 use Rattle.plane.specs.Points.{Edge}
 use Rattle.plane.specs.Cuts.{allPieces}

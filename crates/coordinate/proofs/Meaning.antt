@@ -12,7 +12,8 @@ use lib.Ieee.{Float, nan, inf, binary64, eq, ofInt, ofBits, toSigned}
 use Rattle.whole.specs.Numbers.{Within}
 use Rattle.whole.specs.Polynomials.{_:+_, _:-_, _:=_}
 use Rattle.whole.proofs.Ring.{solve}
-use Rattle.plane.specs.Corners.{millimetres, Held}
+use Rattle.plane.specs.Corners.{millimetres}
+use Rattle.plane.specs.Keys.{Held}
 use Rattle.coordinate.specs.Coordinate.{Equals, heldOf, coordinateOf}
 use Rattle.coordinate.specs.declared.Coordinate.the-variants.{Whole, Not}
 use Rattle.coordinate.proofs.Doubles.{and-true, equal-cut}

@@ -11,14 +11,14 @@ use borrow.Author.Tests.{eq-eqb, ne-eqb}
 use lib.Dec.{T, eqb, eqb→eq}
 use lib.ListN.{length, getD, set, length-set}
 use lib.Seq.{getD-set-same, getD-set-other}
-use Rattle.whole.specs.Numbers.{Told}
+use Rattle.whole.specs.Tests.{Told}
 use Rattle.whole.specs.Sums.{bit, count, net, Among}
 use Rattle.whole.proofs.Sums.{bit-iff, bit-no, bit-small, count-++}
 use Rattle.whole.proofs.Tests.{told-no, told-yes}
 use Rattle.plane.specs.Points.{Edge, flip, sameEdge}
 use Rattle.plane.specs.Keys.{pair}
 use Rattle.plane.proofs.Points.{sameEdge-eq, sameEdge-refl}
-use Rattle.table.specs.Sides.{foundAt}
+use Rattle.table.specs.Opposites.{foundAt}
 use Rattle.table.proofs.Nets.{net-is}
 use Rattle.table.proofs.Shares.{Found, found-at, at-counted}
 use Rattle.counting.specs.Counting.{sideOf, Tallied, Settled, Stray, added, directed}

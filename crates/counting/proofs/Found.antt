@@ -3,16 +3,16 @@ use mathlib.Core.Path.{_≡_, refl, sym, _∙_, ap}
 use mathlib.Core.Logic.{_⊎_, inl, inr}
 use mathlib.Core.Bool.{Bool, true, false}
 use mathlib.Core.List.{List, [], _∷_, _++_}
-use Prim.Native.Nat.{ℕ, zero, suc, _+_, _-_, _≤_, _<_}
+use Prim.Native.Nat.{ℕ, zero, suc, _+_, _≤_, _<_, _-_}
 use native.Mathlib.Omega.{arith}
 use lib.IntN.{pos}
 use lib.ListN.{length}
-use Rattle.whole.specs.Numbers.{Told}
+use Rattle.whole.specs.Tests.{Told}
 use Rattle.whole.specs.Sums.{count, Among}
 use Rattle.plane.specs.Points.{Edge, flip, sameEdge}
 use Rattle.plane.specs.Boundaries.{boundary}
 use Rattle.plane.specs.Keys.{pair}
-use Rattle.table.specs.Sides.{foundAt}
+use Rattle.table.specs.Opposites.{foundAt}
 use Rattle.table.proofs.Shares.{Found, found-at}
 use Rattle.ascending.specs.Ascending.{Ascending, Stands, placeOf}
 use Rattle.ascending.proofs.Ascending.{place-of}

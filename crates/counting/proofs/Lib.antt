@@ -5,3 +5,4 @@ pub mod Walked
 pub mod Counted
 pub mod Found
 pub mod Walking
+pub mod OneOutcome

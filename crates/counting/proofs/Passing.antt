@@ -12,7 +12,7 @@ use lib.Dec.{eqb, ltb}
 use lib.IntN.{pos}
 use lib.ListN.{length, getD, take}
 use lib.Seq.{take-all}
-use Rattle.whole.specs.Numbers.{Told}
+use Rattle.whole.specs.Tests.{Told}
 use Rattle.whole.specs.Sums.{Among, bit, count, net}
 use Rattle.whole.proofs.Ring.{difference}
 use Rattle.whole.proofs.Int.{zify}

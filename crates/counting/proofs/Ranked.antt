@@ -14,7 +14,7 @@ use Rattle.plane.specs.Points.{samePoint}
 use Rattle.plane.specs.Keys.{pointAt, pointsAt}
 use Rattle.plane.proofs.Points.{samePoint-eq, samePoint-refl}
 use Rattle.plane.proofs.Keys.{pointAt-injective, any-among}
-use Rattle.table.specs.Sides.{later}
+use Rattle.table.specs.Opposites.{later}
 use Rattle.ascending.specs.Ascending.{Ascending, Stands}
 use Rattle.across.specs.Codes.{numberIn}
 use Rattle.counting.specs.Counting.{isCorner}

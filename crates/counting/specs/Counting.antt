@@ -12,7 +12,8 @@ use Rattle.plane.specs.Points.{Point, Edge, flip, samePoint, sameEdge, between}
 use Rattle.plane.specs.Cuts.{pieces, allPieces}
 use Rattle.plane.specs.Boundaries.{boundary}
 use Rattle.plane.specs.Keys.{pointAt, Key, pair, pairs, pointsAt}
-use Rattle.table.specs.Sides.{foundAt, netOf}
+use Rattle.table.specs.Sides.{netOf}
+use Rattle.table.specs.Opposites.{foundAt}
 use Rattle.ascending.specs.Ascending.{Ascending, Stands}
 use Rattle.across.specs.Codes.{codeOf, indexOf, numberIn}
 

@@ -13,14 +13,15 @@ use Rattle.sheet.specs.Numbers.{Sheet}
 use Rattle.judged.specs.Judged.{judged, judgedSheet}
 use Rattle.judged.proofs.Repaired.{judged-owners}
 use Rattle.judged.proofs.Figures
-use Rattle.listing.specs.Listing.{gapsOf, overlapsOf, isSingle}
-use Rattle.demands.proofs.Repair.{held}
+use Rattle.figures.specs.Standings.{isSingle, owing}
+use Rattle.listing.specs.Listing.{gapsOf, overlapsOf}
+use Rattle.demands.proofs.Stages.{read-limits}
 
 -- Bytes come to a sheet n with an owner set for each triangle.
 module _ (s : List ℕ) (bytes : All (λ b. b < 256) s) (n : Sheet) (sets : List ℕ) (e : judgedSheet s ≡ judged n sets) where
   -- The double areas of all polygons, from their corners alone, add up to the sum over the triangles of double area times number of owners.
-  pub books-balance : sum doubleArea (n .polygons) ≡ Figures.owing (n .table) sets
-  books-balance = Figures.books-balance (held s bytes n sets e) (judged-owners s e .1)
+  pub books-balance : sum doubleArea (n .polygons) ≡ owing (n .table) sets
+  books-balance = Figures.books-balance (read-limits s bytes n (judged-owners s e .0)) (judged-owners s e .1)
 
   -- The frame's double area is that of the triangles with one owner, plus gaps, plus overlaps.
   pub frame-balance : doubleArea ((frame (corners (n .table)) ∷ []) ∷ [])

@@ -10,19 +10,25 @@ use native.Mathlib.Omega.{arith}
 use lib.ListN.{length}
 use Rattle.plane.specs.Points.{Triangle}
 use Rattle.plane.specs.Members.{Member}
-use Rattle.table.specs.Table.{RuleA, RuleB, RuleC, passed, checkTable}
+use Rattle.table.specs.Table.{RuleA, RuleB, RuleC, passed, refused, checkTable}
 use Rattle.table.specs.Sets.{SetOf}
 use Rattle.table.proofs.Rules.{passes as by-rules, refused-as}
 use Rattle.marks.specs.Marks.{ownerSets}
-use Rattle.owners.specs.Judging.{Carries, carried as carriedBy, notCarried, judge}
+use Rattle.owners.specs.Judging.{Carries, carried as carriedBy, notCarried, code, judge, AreaOfOwnership}
 use Rattle.owners.specs.Owners.{Ownership, owned, notCarriedAt, judgeFrom, ofOwnership}
-use Rattle.owners.proofs.Carried.{Owned, answered, answers, not-carried}
+use Rattle.owners.proofs.Carried.{answered, answers, not-carried}
 use Rattle.owners.proofs.Polygons.{sets-say}
+use Rattle.judging.specs.declared.Judging.{Judging}
+use Rattle.judging.specs.declared.Judging.the-variants.{Carried as Yes}
+use Rattle.judging.specs.Judged.{judgedOf}
+use Rattle.judging.proofs.Judged.{judging-says as code-says}
 use Rattle.sheet.specs.Numbers.{Sheet}
-use Rattle.written.specs.Held.{sheet, readSheet}
+use Rattle.written.specs.Reading.{sheet, readSheet}
 use Rattle.judged.specs.Judged.{judged, refusal, withSets, judgedSheet}
 use Rattle.judged.proofs.Repaired.{judged-owners}
+use Rattle.demands.specs.Triangles.{NoArea, RepeatsSide, First}
 use Rattle.demands.specs.Polygons.{NoSet, polygon, EachCarried, FirstNotCarried, BitsAre}
+use Rattle.demands.proofs.Table.{refused-A, refused-B, refused-C}
 use Rattle.demands.proofs.Stages.{read-lawful, refused-by}
 use Rattle.demands.proofs.Order.{is-first, first-is, comes-to}
 
@@ -30,13 +36,30 @@ use Rattle.demands.proofs.Order.{is-first, first-is, comes-to}
 pub passes : (table : List Triangle) → (checkTable table ≡ passed) ↔ (RuleA table × RuleB table × RuleC table)
 passes = by-rules
 
--- The judging of one polygon, whatever stands before it. Owned says: it is a set of the table's triangles, it has the polygon's boundary, no
+-- Otherwise it is refused: "10: rule A, first such triangle",
+pub breaks-A : (table : List Triangle) (k : ℕ) → (checkTable table ≡ refused 10 k) ↔ First NoArea table k
+breaks-A = refused-A
+
+-- then "11: rule B, first triangle with a side of an earlier one",
+pub breaks-B : (table : List Triangle) (k : ℕ) → (checkTable table ≡ refused 11 k) ↔ (RuleA table × First RepeatsSide table k)
+breaks-B = refused-B
+
+-- then "12: rule C", item 0.
+pub breaks-C : (table : List Triangle) (k : ℕ) → (checkTable table ≡ refused 12 k) ↔ ((k ≡ 0) × RuleA table × RuleB table × (RuleC table → ⊥))
+breaks-C = refused-C
+
+-- The judging of one polygon, whatever stands before it. AreaOfOwnership says: it is a set of the table's triangles, it has the polygon's boundary, no
 -- other set has it, and the double areas of its triangles add up to the polygon's.
 pub carried : (table : List Triangle) → checkTable table ≡ passed → (m : Member)
     → ((judge table m ≡ notCarried) ↔ NoSet table m)
     × ((s : List Bool) → SetOf table s → Carries table s m → judge table m ≡ carriedBy s)
-    × ((s : List Bool) → judge table m ≡ carriedBy s → Owned table m s)
+    × ((s : List Bool) → judge table m ≡ carriedBy s → AreaOfOwnership table m s)
 carried table e m = let r = passes table .0 e in (not-carried table m (r .0) (r .1), answers table m (r .0) (r .1), answered table m (r .0) (r .1))
+
+-- So for the code that judges a polygon, which answers 20 or its labels: 20 exactly if no set has the polygon's boundary, and else the labels are its set.
+pub judging-says : (table : List Triangle) → checkTable table ≡ passed → (m : Member) (r : Judging) (labels : List Bool) → judgedOf r labels ≡ judge table m
+    → ((code (judgedOf r labels) ≡ 20) ↔ NoSet table m) × (r ≡ Yes → AreaOfOwnership table m labels)
+judging-says table e m = let r = passes table .0 e in code-says table m (r .0) (r .1)
 
 -- ---- whole sheets
 -- The number given with 20 is that of the first polygon that no set of triangles carries, and 20 is given exactly if there is one, in a sheet

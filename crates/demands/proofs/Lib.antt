@@ -2,10 +2,15 @@
 pub mod Total
 pub mod Reading
 pub mod Writing
+pub mod Answers
+pub mod Room
 pub mod Carried
 pub mod Repair
 pub mod Books
 pub mod Examples
 mod Stages
 mod Order
+mod Table
+mod Sets
+mod After
 mod Listed

@@ -1,38 +1,24 @@
--- Every refusal that an entry comes to stands in document 01's table. The idea: a refusal comes from reading, from the table rules, from the
--- judging of the polygons, or from what the entry goes on with, and the sheet read has at most 1,024 triangles and 64 polygons. Assumes nothing.
-use mathlib.Core.Path.{_≡_, refl, sym, _∙_, ap, subst}
-use mathlib.Core.Logic.{inl, inr}
+-- Every refusal that an entry comes to stands in document 01's table. The idea: it is known exactly when an entry gives which code (Answers), and the
+-- sheet read has at most 1,024 triangles and 64 polygons. Assumes nothing.
+use mathlib.Core.Path.{_≡_, refl, sym, subst}
+use mathlib.Core.Logic.{⊎-elim}
 use mathlib.Core.Bool.{Bool, true, false, _&&_}
-use mathlib.Core.List.{List, [], _∷_, flatMap}
-use mathlib.Core.Option.{Option, none, some}
-use Prim.Native.Nat.{ℕ, zero, suc, _+_, _*_, _≤_, _<_}
+use mathlib.Core.List.{List, [], _∷_}
+use Prim.Native.Nat.{ℕ, zero, suc, _≤_, _<_}
 use native.Mathlib.Omega.{arith}
-use borrow.Author.Tests.{eqb-false, eq-eqb, ne-eqb, lt-leb}
+use borrow.Author.Tests.{eq-eqb, ne-eqb, lt-leb}
 use lib.Dec.{T, eqb, leb, ltb, eqb→eq, leb→le, le→leb, ltb→lt}
 use lib.ListN.{length, getD}
 use Rattle.whole.specs.Sums.{All, any}
 use Rattle.whole.proofs.Sums.{and-left, and-right, and-both, every-all}
-use Rattle.whole.proofs.Tests.{by-equal, by-cond}
-use Rattle.plane.specs.Points.{Triangle}
-use Rattle.table.specs.Table.{refused as unsound, flat, repeats, checkTable}
-use Rattle.table.proofs.Rules.{FirstFault, refused-as}
-use Rattle.sheet.specs.Numbers.{Sheet}
-use Rattle.sheet.specs.Reading.{readingOf}
-use Rattle.sheet.proofs.Refusals.{Lawful, reading-lawful}
-use Rattle.written.specs.Given.{sheetGiven}
-use Rattle.written.specs.Held.{SheetHeld, sheet, readSheet}
-use Rattle.written.proofs.Held.{read-sheet-is, reads-held}
-use Rattle.lent.specs.Answered.{Outcome, refusal, bytes}
-use Rattle.little.specs.Bytes.{heldBytes}
-use Rattle.set_bytes.specs.Sets.{setsOutcome}
-use Rattle.answers.specs.Answers.{afterRepair, numbersAfter}
-use Rattle.judged.specs.Judged.{JudgedSheet, judged, refusal as refused, judgedSheet}
-use Rattle.written.specs.Given.{writeOutcome}
-use Rattle.outcomes.specs.Entries.{onJudged, repairOf, sidesAfter, ownedSides, boundaryOutcome}
+use Rattle.lent.specs.Answered.{refusal}
+use Rattle.sheet.proofs.Refusals.{Lawful}
+use Rattle.written.specs.Reading.{refused as unreadable, readSheet}
 use Rattle.demands.specs.Refusals.{Row, alone, rows, stands, Listed}
 use Rattle.demands.specs.Entries.{Entry, numbers, write, ownerSets, owners, boundary, listing, outcomeOf}
-use Rattle.demands.proofs.Stages.{read-lawful, refused-by}
-use Rattle.demands.proofs.Carried.{first-not-carried}
+use Rattle.demands.specs.Answers.{Refused, unread, breaks-A, breaks-B, breaks-C, not-carried}
+use Rattle.demands.proofs.Stages.{read-lawful, read-limits}
+use Rattle.demands.proofs.Answers.{numbers-refuses, write-refuses, owner-sets-refuses, owners-refuses, boundary-refuses, listing-refuses-nothing}
 
 -- ---- the table
 any-at : {A : Type 0} (p : A → Bool) (d : A) (l : List A) (i : ℕ) → i < length l → T (p (getD l i d)) → T (any p l)
@@ -91,7 +77,7 @@ code-fits code item = go rows (every-all small Small small-is rows tt)
         choose false f g t = g t
 
 -- ---- from reading
-no-higher : (code item : ℕ) → 9 ≤ code → Lawful code item → ⊥
+pub no-higher : (code item : ℕ) → 9 ≤ code → Lawful code item → ⊥
 no-higher code item h = rw (ne-eqb code 0 (λ e. omega arith), ne-eqb code 7 (λ e. omega arith), lt-leb code 8 h) (λ t. t)
 
 lawful-listed : (code item : ℕ) → (code ≡ 0 → ⊥) × Lawful code item → Listed code item
@@ -106,70 +92,31 @@ lawful-listed (suc (suc (suc (suc (suc (suc (suc zero))))))) item h = in-row 6 i
 lawful-listed (suc (suc (suc (suc (suc (suc (suc (suc zero)))))))) item h = in-row 7 item (omega arith) (omega arith) (leb→le item 65 (h .1))
 lawful-listed (suc (suc (suc (suc (suc (suc (suc (suc (suc code))))))))) item h = absurd (no-higher (suc (suc (suc (suc (suc (suc (suc (suc (suc code))))))))) item (omega arith) (h .1))
 
--- ---- from the table rules
-fault-within : {A : Type 0} (bad : List A → A → Bool) (before l : List A) (n : ℕ) → FirstFault bad before l n → (1 ≤ n) × (n ≤ length before + length l)
-fault-within bad before [] n h = absurd h
-fault-within bad before (a ∷ l) n (inl h) = (omega (arith, h .1), omega (arith, h .1))
-fault-within bad before (a ∷ l) n (inr h) = let r = fault-within bad (a ∷ before) l n (h .1) in (r .0, omega (arith, r .1))
-
-table-listed : (table : List Triangle) (code item : ℕ) → length table ≤ 1024 → checkTable table ≡ unsound code item → Listed code item
-table-listed table code item few e = elim (refused-as table code item e) [
-  | inl a ↦ let w = fault-within flat [] table item (a .1) in subst (λ c. Listed c item) (sym (a .0)) (in-row 8 item (omega arith) (w .0) (omega (arith, w .1)))
-  | inr (inl b) ↦ let w = fault-within repeats [] table item (b .2) in subst (λ c. Listed c item) (sym (b .0)) (in-row 9 item (omega arith) (w .0) (omega (arith, w .1)))
-  | inr (inr c) ↦ subst (λ d. Listed d item) (sym (c .0)) (in-row 10 item (omega arith) (omega arith) (omega (arith, c .1)))
-]
-
--- ---- from judging
+-- ---- from the entries
 module _ (s : List ℕ) (all : All (λ b. b < 256) s) where
-  held : (n : Sheet) → readSheet s ≡ sheet n → SheetHeld n (readingOf s .numbers)
-  held n p = reads-held s all n (read-sheet-is s n .0 p) .0
+  unread-listed : (code item : ℕ) → readSheet s ≡ unreadable code item → Listed code item
+  unread-listed code item e = lawful-listed code item (read-lawful s code item e)
 
-  polygon-listed : (k : ℕ) → judgedSheet s ≡ refused 20 k → Listed 20 k
-  polygon-listed k e = let (n, p, sound, f) = first-not-carried s k .0 e in in-row 11 k (omega arith) (f .low) (omega (arith, f .high, held n p .few-polygons))
+  refused-listed : {code item : ℕ} → Refused s code item → Listed code item
+  refused-listed (unread {code} {item} e) = unread-listed code item e
+  refused-listed (breaks-A {k} n p f) = in-row 8 k (omega arith) (f .low) (omega (arith, f .high, read-limits s all n p .few))
+  refused-listed (breaks-B {k} n p a f) = in-row 9 k (omega arith) (f .low) (omega (arith, f .high, read-limits s all n p .few))
+  refused-listed (breaks-C n p a b c) = in-row 10 0 (omega arith) (omega arith) (omega arith)
+  refused-listed (not-carried {k} n p r f) = in-row 11 k (omega arith) (f .low) (omega (arith, f .high, read-limits s all n p .few-polygons))
 
-  judged-listed : (code item : ℕ) → judgedSheet s ≡ refused code item → Listed code item
-  judged-listed code item e = elim (refused-by s code item e) [
-    | inl r ↦ lawful-listed code item (read-lawful s code item r)
-    | inr (n, p, inl r) ↦ table-listed (n .table) code item (held n p .few) r
-    | inr (n, p, inr r) ↦ subst (λ c. Listed c item) (sym (r .1)) (polygon-listed item (e ∙ ap (λ c. refused c item) (r .1)))
-  ]
-
-  -- ---- from the entries
-  -- A refusal is listed.
-  abbrev Fine : Outcome → Type 0
-  Fine (refusal code item) = Listed code item
-  Fine (bytes item l) = Unit {0}
-
-  on-judged : (next : Sheet → List ℕ → Outcome) → ((n : Sheet) (sets : List ℕ) → Fine (next n sets)) → Fine (onJudged next (judgedSheet s))
-  on-judged next h = go (judgedSheet s) refl
-    where
-      go : (j : JudgedSheet) → judgedSheet s ≡ j → Fine (onJudged next j)
-      go (judged n sets) e = h n sets
-      go (refused code item) e = judged-listed code item e
-
-  after-repair : (f : List ℕ → Outcome) → ((l : List ℕ) → Fine (f l)) → (o : Option (List ℕ)) → Fine (afterRepair f o)
-  after-repair f h none = in-row 12 0 (omega arith) (omega arith) (omega arith)
-  after-repair f h (some l) = h l
-
-  fine : (e : Entry) → Fine (outcomeOf e s)
-  fine numbers =
-      by-equal Fine (eqb (readingOf s .code) 0) (bytes (4 * length (readingOf s .numbers)) (flatMap heldBytes (readingOf s .numbers))) (refusal (readingOf s .code) (readingOf s .item))
-      (λ e. tt) (λ e. lawful-listed (readingOf s .code) (readingOf s .item) (eqb-false (readingOf s .code) 0 e, reading-lawful s))
-  fine write = go (sheetGiven s)
-    where
-      go : (o : Option Sheet) → Fine (writeOutcome o)
-      go none = in-row 15 0 (omega arith) (omega arith) (omega arith)
-      go (some n) = tt
-  fine ownerSets = on-judged (λ n sets. setsOutcome sets) (λ n sets. tt)
-  fine owners = on-judged (λ n sets. afterRepair numbersAfter (repairOf n sets)) (λ n sets. after-repair numbersAfter (λ l. tt) (repairOf n sets))
-  fine (boundary polygon) =
-      on-judged (boundaryOutcome polygon) (λ n sets.
-      by-cond Fine (leb 1 polygon && leb polygon (length (n .polygons))) (afterRepair (λ owners. sidesAfter (ownedSides n polygon owners)) (repairOf n sets)) (refusal 41 0)
-      (λ t. after-repair (λ owners. sidesAfter (ownedSides n polygon owners)) (λ l. tt) (repairOf n sets)) (in-row 14 0 (omega arith) (omega arith) (omega arith)))
-  fine listing = tt
+  -- A code of the table whose item is 0.
+  alone-listed : (i : ℕ) → i < length rows → row i .from ≡ 0 → {code item : ℕ} → code ≡ row i .code → item ≡ 0 → Listed code item
+  alone-listed i h e {code} {item} c z = subst (λ n. Listed n item) (sym c) (in-row i item h (omega arith) (omega arith))
 
   pub outcome-listed : (e : Entry) (code item : ℕ) → outcomeOf e s ≡ refusal code item → Listed code item
-  outcome-listed e code item q = subst Fine q (fine e)
+  outcome-listed numbers code item q = unread-listed code item (numbers-refuses s all code item .0 q)
+  outcome-listed write code item q = let (c, i, f) = write-refuses s all code item .0 q in alone-listed 15 (omega arith) refl c i
+  outcome-listed ownerSets code item q = refused-listed (owner-sets-refuses s all code item .0 q)
+  outcome-listed owners code item q = ⊎-elim refused-listed (λ (c, i, n, sets, h, z). alone-listed 12 (omega arith) refl c i) (owners-refuses s all code item .0 q)
+  outcome-listed (boundary k) code item q =
+      ⊎-elim refused-listed (⊎-elim (λ (c, i, n, sets, h, off). alone-listed 14 (omega arith) refl c i) (λ (c, i, n, sets, h, on, z). alone-listed 12 (omega arith) refl c i))
+      (boundary-refuses s all k code item .0 q)
+  outcome-listed listing code item q = absurd (listing-refuses-nothing s all code item q)
 
 -- The code of an answer that is too long.
 pub short-listed : Listed 40 0

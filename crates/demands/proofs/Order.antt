@@ -16,7 +16,7 @@ use Rattle.owners.specs.Owners.{Ownership, owned, notCarriedAt, judgeFrom, ofOw
 use Rattle.owners.proofs.Carried.{answered, not-carried}
 use Rattle.owners.proofs.Polygons.{FirstRefused, first-refused, bits-are}
 use Rattle.sheet.specs.Numbers.{Sheet}
-use Rattle.written.specs.Held.{sheet, readSheet}
+use Rattle.written.specs.Reading.{sheet, readSheet}
 use Rattle.judged.specs.Judged.{withSets, ofRead, judgedSheet}
 use Rattle.demands.specs.Polygons.{SomeSet, polygon, EachCarried, FirstNotCarried}
 

@@ -4,6 +4,7 @@ use mathlib.Core.Logic.{_↔_}
 use mathlib.Core.List.{List, [], _∷_}
 use mathlib.Core.Option.{none, some}
 use Prim.Native.Nat.{ℕ, _≤_, _<_}
+use native.Mathlib.Omega.{arith}
 use lib.IntN.{pos}
 use lib.ListN.{length, getD}
 use lib.Signed.{_≤ℤ_}
@@ -12,27 +13,37 @@ use Rattle.plane.specs.Points.{Edge, sameEdge, double}
 use Rattle.plane.specs.Boundaries.{boundary, sidesOf}
 use Rattle.plane.specs.Members.{doubleArea}
 use Rattle.table.specs.Table.{corners, frame}
-use Rattle.table.specs.Sides.{opposites}
+use Rattle.table.specs.Opposites.{opposites}
 use Rattle.regions.specs.Regions.{from}
-use Rattle.repair.proofs.OneOwner.{OneOwner}
+use Rattle.repair.specs.OneOwner.{OneOwner, ownersAt}
+use Rattle.repair.proofs.Kept
 use Rattle.bounding.specs.Sides.{trianglesOwned}
 use Rattle.sheet.specs.Numbers.{Sheet}
 use Rattle.sheet.specs.Reading.{readingOf}
 use Rattle.written.specs.Held.{SheetHeld}
-use Rattle.written.proofs.Held.{read-sheet-is, reads-held}
 use Rattle.judged.specs.Judged.{judged, judgedSheet}
 use Rattle.judged.proofs.Repaired
 use Rattle.outcomes.specs.Entries.{repairOf, ownedSides}
+use Rattle.demands.proofs.Stages.{read-limits}
 
 -- Bytes come to a sheet n with an owner set for each triangle.
 module _ (s : List ℕ) (bytes : All (λ b. b < 256) s) (n : Sheet) (sets : List ℕ) (e : judgedSheet s ≡ judged n sets) where
   -- (The sheet is within the limits.)
-  pub held : SheetHeld n (readingOf s .numbers)
-  held = reads-held s bytes n (read-sheet-is s n .0 (Repaired.judged-owners s e .0)) .0
+  held : SheetHeld n (readingOf s .numbers)
+  held = read-limits s bytes n (Repaired.judged-owners s e .0)
 
   -- "Repair can't be done exactly if no triangle has an owner."
   pub unrepaired : (repairOf n sets ≡ none) ↔ ((t : ℕ) → t < length (n .table) → getD sets t 0 ≡ 0)
   unrepaired = Repaired.unrepaired held (Repaired.judged-owners s e .1)
+
+  -- "The sheet is clean if every triangle has exactly one" owner: then repair has an answer and changes nothing.
+  pub clean-kept : ((t : ℕ) → t < length (n .table) → length (ownersAt sets t) ≡ 1)
+      → (owners : List ℕ) × (repairOf n sets ≡ some owners) × ((t : ℕ) → t < length (n .table) → ownersAt sets t ≡ getD owners t 0 ∷ [])
+  clean-kept clean =
+      let each = Repaired.judged-rules held (Repaired.judged-owners s e .1) .3 in
+      let single : (t : ℕ) → t < length sets → length (ownersAt sets t) ≡ 1 = λ t h. clean t (omega arith) in
+      let (owners, r) = Kept.clean-repaired _ sets single (omega (arith, held .some)) in
+      (owners, r, λ t h. Kept.clean-kept _ sets single owners (Repaired.one-owner held (Repaired.judged-owners s e .1) owners r .0) t (omega arith))
 
   -- ---- otherwise it gives an owner number to each triangle
   module _ (owners : List ℕ) (r : repairOf n sets ≡ some owners) where

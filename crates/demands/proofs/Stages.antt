@@ -4,11 +4,12 @@ use mathlib.Core.Logic.{_⊎_, inl, inr}
 use mathlib.Core.Bool.{Bool, true, false, cond}
 use mathlib.Core.List.{List, map}
 use mathlib.Core.Option.{Option, none, some}
-use Prim.Native.Nat.{ℕ}
+use Prim.Native.Nat.{ℕ, _<_}
 use native.Mathlib.Omega.{arith}
 use borrow.Author.Tests.{eqb-false}
 use lib.Dec.{eqb}
 use lib.ListN.{length}
+use Rattle.whole.specs.Sums.{All}
 use Rattle.plane.specs.Corners.{millimetres}
 use Rattle.plane.specs.Points.{Triangle}
 use Rattle.plane.specs.Members.{Member}
@@ -18,7 +19,9 @@ use Rattle.sheet.specs.Numbers.{Sheet}
 use Rattle.sheet.specs.Reading.{readingOf}
 use Rattle.sheet.proofs.Refusals.{Lawful, reading-lawful}
 use Rattle.written.specs.Form.{sheetIn}
-use Rattle.written.specs.Held.{ReadSheet, sheet, refused as unread, made, readSheet}
+use Rattle.written.specs.Held.{SheetHeld}
+use Rattle.written.specs.Reading.{ReadSheet, sheet, refused as unread, made, readSheet}
+use Rattle.written.proofs.Held.{read-sheet-is, reads-held}
 use Rattle.judged.specs.Judged.{withSets, ofRead, refusal, judgedSheet}
 
 -- A refusal of reading has a code that document 01 gives for reading, with its item.
@@ -37,6 +40,10 @@ read-lawful s code item e = go (eqb (readingOf s .code) 0) refl (sheetIn (map mi
         let c : readingOf s .code ≡ code = cc e in
         let i : readingOf s .item ≡ item = cc e in
         (λ z. eqb-false (readingOf s .code) 0 q (c ∙ z), subst (λ i. Lawful code i) i (subst (λ c. Lawful c (readingOf s .item)) c (reading-lawful s)))
+
+-- A sheet that is read is within the limits.
+pub read-limits : (s : List ℕ) → All (λ b. b < 256) s → (n : Sheet) → readSheet s ≡ sheet n → SheetHeld n (readingOf s .numbers)
+read-limits s bytes n e = reads-held s bytes n (read-sheet-is s n .0 e) .0
 
 -- A table and polygons are refused by the table rules, or, where the table passes, with 20 and the number of a polygon.
 abbrev pub ByTable : List Triangle → List Member → ℕ → ℕ → Type 0

@@ -1,25 +1,26 @@
 -- Demand 2: "Sheets are .. written as OGC Simple Features lays down its binary form. Reading a written sheet gives the same numbers back, and
 -- equal sheets are written as equal bytes." Assumes nothing.
-use mathlib.Core.Path.{_≡_}
+use mathlib.Core.Path.{_≡_, refl, sym, _∙_, ap}
 use mathlib.Core.List.{List}
-use mathlib.Core.Option.{some}
 use Prim.Native.Nat.{ℕ, _<_}
 use lib.Dec.{T}
 use lib.ListN.{length}
 use Rattle.whole.specs.Sums.{All}
 use Rattle.wkb.specs.Standard.{Geometry, encode}
-use Rattle.sheet.specs.Numbers.{Sheet}
+use Rattle.sheet.specs.Numbers.{Sheet, numbersOf}
 use Rattle.sheet.specs.Reading.{readingOf}
 use Rattle.standard.specs.Limits.{SheetFits, sheetOf}
 use Rattle.written.specs.Fits.{sheetFits}
-use Rattle.written.specs.Given.{sheetGiven}
-use Rattle.written.specs.Held.{sheet, readSheet}
+use Rattle.written.specs.Reading.{sheet, readSheet}
 use Rattle.written.specs.Normal.{written}
+use Rattle.written.proofs.Given.{form-bytes}
 use Rattle.written.proofs.Held.{read-sheet-is}
+use Rattle.written.proofs.Trip.{written-bytes}
 use Rattle.written.proofs.Trip
 use Rattle.lent.specs.Answered.{bytes}
-use Rattle.outcomes.specs.Entries.{sheetNumbers}
-use Rattle.outcomes.proofs.Trip.{same-bytes as given-back}
+use Rattle.demands.specs.Answers.{formOf}
+use Rattle.demands.specs.Entries.{numbers, write, outcomeOf}
+use Rattle.demands.proofs.Answers.{numbers-answers, write-answers}
 
 -- What is written is one of the standard's encodings of the sheet, within the limits.
 pub written-standard : (n : Sheet) → T (sheetFits n) → (g : Geometry) × SheetFits g × (encode g ≡ written n) × (sheetOf g ≡ n)
@@ -37,6 +38,21 @@ read-fits s all n e = Trip.read-written s all n (read-sheet-is s n .0 e)
 pub equal-bytes : (s t : List ℕ) (m n : Sheet) → readSheet s ≡ sheet m → readSheet t ≡ sheet n → readingOf s .numbers ≡ readingOf t .numbers → written m ≡ written n
 equal-bytes s t m n p q = Trip.equal-bytes s t m n (read-sheet-is s m .0 p) (read-sheet-is t n .0 q)
 
--- The numbers entry, given what is written for numbers, answers those numbers, byte by byte.
-pub same-bytes : (s : List ℕ) → All (λ b. b < 256) s → (n : Sheet) → sheetGiven s ≡ some n → sheetNumbers (written n) ≡ bytes (length s) s
-same-bytes = given-back
+-- ---- the entries
+-- "The writer takes this form": given the numbers form of any sheet within the limits, the writer answers the sheet's normal bytes.
+pub write-form : (n : Sheet) → T (sheetFits n) → outcomeOf write (formOf n) ≡ bytes (length (written n)) (written n)
+write-form n h = write-answers (formOf n) (form-bytes (numbersOf n)) _ _ .1 (n, h, refl, refl, refl)
+
+-- Whatever is read can be written: given what the numbers entry answers, the writer answers the normal bytes of the sheet that was read.
+pub numbers-then-write : (s : List ℕ) → All (λ b. b < 256) s → (item : ℕ) (l : List ℕ) → outcomeOf numbers s ≡ bytes item l
+    → (n : Sheet) × (readSheet s ≡ sheet n) × (outcomeOf write l ≡ bytes (length (written n)) (written n))
+numbers-then-write s all item l q =
+    let (n, r, e, i) = numbers-answers s all item l .0 q in
+    (n, r, ap (outcomeOf write) e ∙ write-form n (read-fits s all n r))
+
+-- "Reading a written sheet gives the same numbers back": given what the writer answers, the numbers entry answers what the writer was given, byte by
+-- byte.
+pub same-bytes : (s : List ℕ) → All (λ b. b < 256) s → (item : ℕ) (l : List ℕ) → outcomeOf write s ≡ bytes item l → outcomeOf numbers l ≡ bytes (length s) s
+same-bytes s all item l q =
+    let (n, t, f, e, i) = write-answers s all item l .0 q in
+    ap (outcomeOf numbers) e ∙ numbers-answers (written n) (written-bytes n) (length s) s .1 (n, round-trip n t, sym f, ap length (sym f))

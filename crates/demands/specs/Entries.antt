@@ -21,3 +21,12 @@ outcomeOf ownerSets s = sheetOwnerSets s
 outcomeOf owners s = sheetOwners s
 outcomeOf (boundary polygon) s = sheetBoundary polygon s
 outcomeOf listing s = sheetListing s
+
+-- The room of an entry: lent so many bytes, it never answers 40.
+abbrev pub roomOf : Entry → ℕ
+roomOf numbers = 65_800
+roomOf write = 158_290
+roomOf ownerSets = 8_192
+roomOf owners = 1_024
+roomOf (boundary polygon) = 49_152
+roomOf listing = 6_600

@@ -2,3 +2,4 @@
 pub mod Stores
 pub mod Walk
 pub mod Triangles
+pub mod OneOutcome

@@ -9,8 +9,8 @@ use lib.ListN.{length, getD, drop, set}
 use lib.Seq.{getD-set-same, getD-set-other}
 use Rattle.whole.specs.Sums.{All}
 use Rattle.plane.specs.Points.{Point, Triangle}
-use Rattle.plane.specs.Corners.{millimetres, point, Held}
-use Rattle.plane.specs.Keys.{keyOf, pointAt, Key}
+use Rattle.plane.specs.Corners.{millimetres}
+use Rattle.plane.specs.Keys.{point, Held, keyOf, pointAt, Key}
 use Rattle.table.specs.Sides.{trianglesOf}
 use Rattle.sheet.specs.Numbers.{pointNumbers, triangleNumbers, counted}
 use Rattle.edges.specs.Standing.{Stands, cornerAt}

@@ -10,8 +10,8 @@ use Rattle.whole.specs.Polynomials.{_:+_, _:-_, _:=_}
 use Rattle.whole.proofs.Ring.{solve}
 use Rattle.plane.specs.Points.{Point, Edge, _⟶_}
 use Rattle.plane.specs.Members.{Member, edges, memberEdges}
-use Rattle.plane.specs.Corners.{millimetres, point, Held, InRange}
-use Rattle.plane.specs.Keys.{keyOf, pointAt, Key, pairs}
+use Rattle.plane.specs.Corners.{millimetres}
+use Rattle.plane.specs.Keys.{point, Held, InRange, keyOf, pointAt, Key, pairs}
 use Rattle.table.proofs.Bounds.{key-of}
 use Rattle.sheet.specs.Numbers.{pointNumbers, counted, ringNumbers, memberNumbers}
 use Rattle.edges.specs.declared.Laid.{Laid}
@@ -41,6 +41,7 @@ pub record Left {A : Type 0} (f : A → List ℤ) (e : List A → List Edge) (nu
   pub many : length todo ≡ left
   pub edges : done ++ e todo ≡ e l
   pub stands : map millimetres (drop here numbers) ≡ flatMap f todo ++ rest
+  pub within : here ≤ length numbers
 
 -- While a counted list is read: corners are stored from place fill on, and they and what is left make up the list that stands at the place, whichever it is.
 pub record Going {A : Type 0} (f : A → List ℤ) (e : List A → List Edge) (numbers : List ℕ) (at fill : ℕ) (from₀ to₀ from to : List ℕ) (here next left : ℕ) : Type 0 where
@@ -66,7 +67,7 @@ going-begin f e numbers at fill from to =
       starts = [];
       ends = [];
       stored = stored-none from to fill;
-      reads = λ l rest s. let w = count-first f numbers at l rest s in record { todo = l; many = omega arith; edges = refl; stands = w .2 };
+      reads = λ l rest s. let w = count-first f numbers at l rest s in record { todo = l; many = omega arith; edges = refl; stands = w .2; within = omega arith };
     }
 
 module _ {A : Type 0} {f : A → List ℤ} {numbers : List ℕ} {at fill : ℕ} {from₀ to₀ : List ℕ} where
@@ -118,6 +119,7 @@ module _ {A : Type 0} {f : A → List ℤ} {numbers : List ℕ} {at fill : ℕ} 
             many = omega arith;
             edges = rw (pairs-++ (w .starts) (w .ends) (y .starts) (y .ends) (w .stored .as-many), z .0, append-assoc) e;
             stands = z .1;
+            within = z .2;
           }
 
   -- All things are read.
@@ -125,12 +127,12 @@ module _ {A : Type 0} {f : A → List ℤ} {numbers : List ℕ} {at fill : ℕ} 
       → Lays (counted f) (flatMap g) numbers at fill from₀ to₀ from to (record { at = here; fill = next })
   unfolding flatMap
   going-done g {here = here} {left = left} w h =
-      record { starts = w .starts; ends = w .ends; stored = w .stored; reads = λ l rest s. let x = w .reads l rest s in go l rest (x .todo) (x .many) (x .edges) (x .stands) }
+      record { starts = w .starts; ends = w .ends; stored = w .stored; reads = λ l rest s. let x = w .reads l rest s in go l rest (x .todo) (x .many) (x .edges) (x .stands) (x .within) }
     where
-      go : (l : List A) (rest : List ℤ) (todo : List A) → length todo ≡ left → pairs (w .starts) (w .ends) ++ flatMap g todo ≡ flatMap g l
-          → map millimetres (drop here numbers) ≡ flatMap f todo ++ rest → (pairs (w .starts) (w .ends) ≡ flatMap g l) × (map millimetres (drop here numbers) ≡ rest)
-      go l rest [] m e s = (sym (append-nil (pairs (w .starts) (w .ends))) ∙ e, s)
-      go l rest (a ∷ t) m e s = absurd (omega arith)
+      go : (l : List A) (rest : List ℤ) (todo : List A) → length todo ≡ left → pairs (w .starts) (w .ends) ++ flatMap g todo ≡ flatMap g l → map millimetres (drop here numbers) ≡ flatMap f todo ++ rest
+          → here ≤ length numbers → (pairs (w .starts) (w .ends) ≡ flatMap g l) × (map millimetres (drop here numbers) ≡ rest) × (here ≤ length numbers)
+      go l rest [] m e s b = (sym (append-nil (pairs (w .starts) (w .ends))) ∙ e, s, b)
+      go l rest (a ∷ t) m e s b = absurd (omega arith)
 
 -- Each of the numbers is one of a coordinate; behind the last 0 is taken.
 held-at : (numbers : List ℕ) (i : ℕ) → All Held numbers → Held (getD numbers i 0)
@@ -204,6 +206,7 @@ module _ {numbers : List ℕ} {at fill : ℕ} {from₀ to₀ from to : List ℕ}
             many = omega arith;
             edges = rw (joined, point-at numbers held here ∙ u .1, point-at numbers held (here + 2) ∙ v .1, append-assoc) e;
             stands = u .2;
+            within = omega arith;
           }
 
   -- At most one point is left, from which no edge goes.
@@ -211,17 +214,18 @@ module _ {numbers : List ℕ} {at fill : ℕ} {from₀ to₀ from to : List ℕ}
       → Lays ringNumbers edges numbers at fill from₀ to₀ from to (record { at = here + 2 * left; fill = next })
   unfolding flatMap
   ring-done w h =
-      record { starts = w .starts; ends = w .ends; stored = w .stored; reads = λ l rest s. let x = w .reads l rest s in go l rest (x .todo) (x .many) (x .edges) (x .stands) }
+      record { starts = w .starts; ends = w .ends; stored = w .stored; reads = λ l rest s. let x = w .reads l rest s in go l rest (x .todo) (x .many) (x .edges) (x .stands) (x .within) }
     where
-      go : (l : List Point) (rest : List ℤ) (todo : List Point) → length todo ≡ left → pairs (w .starts) (w .ends) ++ edges todo ≡ edges l
-          → map millimetres (drop here numbers) ≡ flatMap pointNumbers todo ++ rest → (pairs (w .starts) (w .ends) ≡ edges l) × (map millimetres (drop (here + 2 * left) numbers) ≡ rest)
-      go l rest [] m e s =
+      go : (l : List Point) (rest : List ℤ) (todo : List Point) → length todo ≡ left → pairs (w .starts) (w .ends) ++ edges todo ≡ edges l → map millimetres (drop here numbers) ≡ flatMap pointNumbers todo ++ rest
+          → here ≤ length numbers → (pairs (w .starts) (w .ends) ≡ edges l) × (map millimetres (drop (here + 2 * left) numbers) ≡ rest) × (here + 2 * left ≤ length numbers)
+      go l rest [] m e s b =
           let k : here + 2 * left ≡ here = omega arith in
-          (sym (append-nil (pairs (w .starts) (w .ends))) ∙ e, ap (λ n. map millimetres (drop n numbers)) k ∙ s)
-      go l rest (p ∷ []) m e s =
+          (sym (append-nil (pairs (w .starts) (w .ends))) ∙ e, ap (λ n. map millimetres (drop n numbers)) k ∙ s, omega arith)
+      go l rest (p ∷ []) m e s b =
           let k : here + 2 * left ≡ here + 2 = omega arith in
-          (sym (append-nil (pairs (w .starts) (w .ends))) ∙ e, ap (λ n. map millimetres (drop n numbers)) k ∙ point-first numbers here p rest s .2)
-      go l rest (p ∷ q ∷ t) m e s = absurd (omega arith)
+          let q = point-first numbers here p rest s in
+          (sym (append-nil (pairs (w .starts) (w .ends))) ∙ e, ap (λ n. map millimetres (drop n numbers)) k ∙ q .2, omega (arith, q .0))
+      go l rest (p ∷ q ∷ t) m e s b = absurd (omega arith)
 
 -- What is stored from place 0 on.
 pub lays-down : {numbers : List ℕ} {at : ℕ} {from₀ to₀ from to : List ℕ} {r : Laid} → Room memberNumbers memberEdges numbers at 0 from₀ to₀
@@ -231,6 +235,7 @@ lays-down {numbers} {at} {from₀} {to₀} {from} {to} {r} room w =
       many = λ m rest s. many m (w .reads m rest s .0);
       edges = λ m rest s. ap₂ pairs (f .0) (t .0) ∙ w .reads m rest s .0;
       behind = λ m rest s. w .reads m rest s .1;
+      within = λ m rest s. w .reads m rest s .2;
       from-keys = subst (All Key) (sym (f .0)) (w .stored .from-keys);
       to-keys = subst (All Key) (sym (t .0)) (w .stored .to-keys);
       from-behind = f .1;

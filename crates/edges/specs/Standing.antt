@@ -9,8 +9,8 @@ use Rattle.whole.specs.Sums.{All}
 use Rattle.plane.specs.declared.Corner.{Corner}
 use Rattle.plane.specs.Points.{Edge}
 use Rattle.plane.specs.Members.{Member, memberEdges}
-use Rattle.plane.specs.Corners.{millimetres, Held}
-use Rattle.plane.specs.Keys.{Key, pairs}
+use Rattle.plane.specs.Corners.{millimetres}
+use Rattle.plane.specs.Keys.{Held, Key, pairs}
 use Rattle.sheet.specs.Numbers.{memberNumbers}
 use Rattle.edges.specs.declared.Laid.{Laid}
 
@@ -45,7 +45,7 @@ pub record Lays {A : Type 0} (f : A → List ℤ) (e : A → List Edge) (numbers
   pub starts : List ℕ
   pub ends : List ℕ
   pub stored : Stored from₀ to₀ fill starts ends from to (r .fill)
-  pub reads : (a : A) (rest : List ℤ) → Stands f numbers at a rest → (pairs starts ends ≡ e a) × (map millimetres (drop (r .at) numbers) ≡ rest)
+  pub reads : (a : A) (rest : List ℤ) → Stands f numbers at a rest → (pairs starts ends ≡ e a) × (map millimetres (drop (r .at) numbers) ≡ rest) × (r .at ≤ length numbers)
 
 -- Of the polygon that stands at the place, whichever it is, the edges are laid down at the front of both lists, and r has their number and the place behind the polygon.
 -- Behind the edges both lists are as they were.
@@ -53,6 +53,7 @@ pub record LaysDown (numbers : List ℕ) (at : ℕ) (from₀ to₀ from to : Lis
   pub many : (m : Member) (rest : List ℤ) → Stands memberNumbers numbers at m rest → r .fill ≡ length (memberEdges m)
   pub edges : (m : Member) (rest : List ℤ) → Stands memberNumbers numbers at m rest → pairs (take (r .fill) from) (take (r .fill) to) ≡ memberEdges m
   pub behind : (m : Member) (rest : List ℤ) → Stands memberNumbers numbers at m rest → map millimetres (drop (r .at) numbers) ≡ rest
+  pub within : (m : Member) (rest : List ℤ) → Stands memberNumbers numbers at m rest → r .at ≤ length numbers
   pub from-keys : All Key (take (r .fill) from)
   pub to-keys : All Key (take (r .fill) to)
   pub from-behind : drop (r .fill) from ≡ drop (r .fill) from₀

@@ -3,8 +3,8 @@ ghost use mathlib.Core.Path.{_≡_};
 ghost use lib.IntN.{_+ℤ_, _-ℤ_, _*ℤ_};
 ghost use Rattle.whole.specs.Numbers.{Within};
 ghost use Rattle.plane.specs.Points.{_⟶_, turn, between};
-ghost use Rattle.plane.specs.Corners.{millimetres, point, Held, InRange};
-ghost use Rattle.plane.specs.Keys.{pointAt, Key, pair};
+ghost use Rattle.plane.specs.Corners.{millimetres};
+ghost use Rattle.plane.specs.Keys.{point, Held, InRange, pointAt, Key, pair};
 use plane::Corner;
 
 // The way from one coordinate to another.

@@ -1,23 +1,12 @@
 -- The figures of the listing: which triangles each is of, how many they are, and their double area.
-use mathlib.Core.Bool.{Bool, true, false}
+use mathlib.Core.Bool.{Bool}
 use mathlib.Core.List.{List, [], _∷_}
 use Prim.Native.Nat.{ℕ, _+_, _-_, _/_, _%_, _^_, _≤_}
 use lib.Dec.{eqb}
-use Rattle.marks.specs.declared.Standing.{Standing}
-use Rattle.marks.specs.declared.Standing.the-variants.{Gap, Single, Overlap}
 use Rattle.marks.specs.Marks.{standingOf}
 use Rattle.figures.specs.declared.Figure.{Figure}
+use Rattle.figures.specs.Standings.{isGap, isOverlap}
 use Rattle.figures.specs.declared.Figure.the-variants.{Gaps, Overlaps, Before, After}
-
-abbrev pub isGap : Standing → Bool
-isGap Gap = true
-isGap (Single k) = false
-isGap (Overlap k) = false
-
-abbrev pub isOverlap : Standing → Bool
-isOverlap Gap = false
-isOverlap (Single k) = false
-isOverlap (Overlap k) = true
 
 -- The figure is of a triangle with this owner set before repair and this number after: the gaps, the overlaps, the triangles that polygon k owns
 -- before repair (bit k - 1), and those that it owns after.

@@ -1,2 +1,3 @@
 -- The figures of the listing.
 pub mod Figures
+pub mod Standings

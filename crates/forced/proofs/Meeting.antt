@@ -11,7 +11,8 @@ use lib.Seq.{getD-set-same, getD-set-other}
 use Rattle.whole.specs.Sums.{All, bit}
 use Rattle.plane.specs.Points.{flip}
 use Rattle.plane.specs.Boundaries.{sidesOf}
-use Rattle.table.specs.Sides.{trianglesOf, opposites, Reaches}
+use Rattle.table.specs.Sides.{trianglesOf, Reaches}
+use Rattle.table.specs.Opposites.{opposites}
 use Rattle.table.proofs.Shares.{length-triangles, length-opposites, opposite-some, opposite-is}
 use Rattle.table.proofs.Reach.{reached}
 use Rattle.forced.specs.Meeting.{marked, Reverses, Back, Across, Meeting, Taken, stays, takes, Grown, Rounded, Spread, Started}

@@ -7,7 +7,8 @@ use lib.ListN.{length, getD, set}
 use Rattle.whole.specs.Sums.{bit}
 use Rattle.plane.specs.Boundaries.{sidesOf}
 use Rattle.table.specs.Table.{RuleA, RuleB}
-use Rattle.table.specs.Sides.{trianglesOf, opposites}
+use Rattle.table.specs.Sides.{trianglesOf}
+use Rattle.table.specs.Opposites.{opposites}
 
 -- How many marks are set.
 abbrev pub marked : List Bool → ℕ

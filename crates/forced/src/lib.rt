@@ -6,7 +6,8 @@ ghost use Prim.Native.Nat.{ℕ, _*_, _/_, _≤_, _<_};
 ghost use lib.ListN.{length, getD};
 ghost use Rattle.plane.specs.Boundaries.{sidesOf};
 ghost use Rattle.table.specs.Table.{RuleA, RuleB};
-ghost use Rattle.table.specs.Sides.{trianglesOf, opposites, Reaches};
+ghost use Rattle.table.specs.Sides.{trianglesOf, Reaches};
+ghost use Rattle.table.specs.Opposites.{opposites};
 ghost use Rattle.forced.specs.Meeting.{Reverses, Back, Across, Meeting, Taken, Grown, Rounded, Spread, Started};
 
 // Side k is taken into the order unless its triangle has been met.

@@ -11,7 +11,8 @@ use Rattle.whole.proofs.Sums.{all-map}
 use Rattle.plane.specs.Points.{Point, samePoint}
 use Rattle.plane.specs.Keys.{pointAt, Key, pair, pointsAt}
 use Rattle.table.specs.Table.{corners, RuleB, firstFault, repeats}
-use Rattle.table.specs.Sides.{trianglesOf, tailsOf, foundAt, opposites, itemOf, FirstRepeat}
+use Rattle.table.specs.Sides.{trianglesOf, tailsOf, itemOf, FirstRepeat}
+use Rattle.table.specs.Opposites.{foundAt, opposites}
 use Rattle.table.proofs.Shares.{sides-pairs, length-tails, length-sides, side-at, side-once}
 use Rattle.table.proofs.Faults.{first-repeat-is}
 use Rattle.table.proofs.Bounds.{corners-points}

@@ -24,7 +24,7 @@ use Rattle.table.specs.Table.{corners, frame, RuleA, RuleB, Checked, passed, re
 use Rattle.table.specs.Sets.{chosen}
 use Rattle.marks.specs.declared.Standing.{Standing}
 use Rattle.marks.specs.declared.Standing.the-variants.{Gap, Single, Overlap}
-use Rattle.marks.specs.Marks.{withMarks, ownerSets, ownersIn, standingOf}
+use Rattle.marks.specs.Marks.{withMarks, ownerSets, standingOf, ownersIn}
 use Rattle.marks.proofs.Bits.{length-owners}
 use Rattle.marks.proofs.Owning.{length-owner-sets}
 use Rattle.regions.specs.Regions.{from}
@@ -32,7 +32,8 @@ use Rattle.bounding.specs.Sides.{trianglesOwned}
 use Rattle.bounding.proofs.Bounding.{frame-area}
 use Rattle.figures.specs.declared.Figure.{Figure}
 use Rattle.figures.specs.declared.Figure.the-variants.{Gaps, Overlaps, Before, After}
-use Rattle.figures.specs.Figures.{isGap, isOverlap, counts, marksOf, total}
+use Rattle.figures.specs.Figures.{counts, marksOf, total}
+use Rattle.figures.specs.Standings.{isGap, isOverlap, owing}
 use Rattle.figures.proofs.Totals.{total-area, chosen-many, after-marks, before-marks}
 use Rattle.owners.specs.Owners.{Ownership, owned, notCarriedAt, judgeFrom, sets, ofOwnership, ofChecked, ownersOf}
 use Rattle.owners.proofs.Carried.{answered}
@@ -119,12 +120,6 @@ module _ (table : List Triangle) (polygons : List Member) {l : List ℕ} (e : ow
         figure p = sym (ap (λ s. pos (total (chosen areas s))) (after-marks p l owners (sets-many ∙ sym each)) ∙ total-area table areas are (map (λ owner. eqb owner p) owners))
 
 -- ---- the owners of each triangle
--- The double area of each triangle as often as it has owners.
-abbrev pub owing : List Triangle → List ℕ → ℤ
-owing [] l = pos 0
-owing (t ∷ table) [] = pos 0
-owing (t ∷ table) (set ∷ l) = double t *ℤ pos (length (ownersIn 64 0 set)) +ℤ owing table l
-
 -- The same by the ones of a set.
 abbrev byOnes : List Triangle → List ℕ → ℤ
 byOnes [] l = pos 0

@@ -4,3 +4,4 @@ pub mod Repaired
 pub mod Standing
 pub mod Sides
 pub mod Figures
+pub mod OneOutcome

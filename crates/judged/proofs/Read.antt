@@ -14,11 +14,13 @@ use Rattle.sheet.specs.Reading.{Reading, readingOf}
 use Rattle.sheet.specs.Going.{laid, readOf}
 use Rattle.sheet.proofs.Laid.{length-laid, laid-front}
 use Rattle.written.specs.Form.{sheetIn}
-use Rattle.written.specs.Held.{SheetHeld, sheet, made, readSheet, refused as unread}
+use Rattle.written.specs.Held.{SheetHeld}
+use Rattle.written.specs.Reading.{sheet, made, readSheet, refused as unread}
 use Rattle.owner_sets.specs.declared.Owning.{Owning}
 use Rattle.owner_sets.specs.declared.Owning.the-variants.{Sets, Refused as RefusedOwning}
 use Rattle.owner_sets.specs.Owning.{OwnedOf}
-use Rattle.judged.specs.Judged.{withSets, ofRead, refusal, judgedSheet, JudgedAs}
+use Rattle.judged.specs.Judged.{withSets, ofRead, refusal, judgedSheet}
+use Rattle.judged.specs.Held.{JudgedAs}
 
 -- A sheet was read: its numbers, and no code.
 pub sheet-is : (r : Reading) (n : ℕ) → readOf r ≡ Read n → (n ≡ length (r .numbers)) × (r .code ≡ 0)

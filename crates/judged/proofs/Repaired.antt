@@ -22,7 +22,8 @@ use Rattle.plane.specs.Points.{Edge, Triangle, sameEdge, double}
 use Rattle.plane.specs.Boundaries.{boundary, sidesOf}
 use Rattle.plane.specs.Members.{Member, doubleArea}
 use Rattle.table.specs.Table.{corners, frame, RuleA, RuleB, RuleC, Checked, passed, refused, checkTable}
-use Rattle.table.specs.Sides.{trianglesOf, opposites}
+use Rattle.table.specs.Sides.{trianglesOf}
+use Rattle.table.specs.Opposites.{opposites}
 use Rattle.table.proofs.Rules.{passes}
 use Rattle.marks.specs.Marks.{ownerSets}
 use Rattle.marks.proofs.Bits.{owners-in}
@@ -30,7 +31,8 @@ use Rattle.marks.proofs.Owning.{length-owner-sets, owner-sets-below, no-bit-bey
 use Rattle.regions.specs.Regions.{from}
 use Rattle.regions.specs.Spreading.{Paired}
 use Rattle.repair.specs.Repair.{repaired}
-use Rattle.repair.proofs.OneOwner.{ownersOf as ownersIn, ownersAt, Connects, paired, connects, no-owner, OneOwner, repaired-length, repaired-one, only-one}
+use Rattle.repair.proofs.OneOwner.{Connects, paired, connects, no-owner, repaired-length, repaired-one, only-one}
+use Rattle.repair.specs.OneOwner.{ownersOf as ownersIn, ownersAt, OneOwner}
 use Rattle.repair.proofs.Kept.{within-polygons}
 use Rattle.bounding.specs.Sides.{boundarySides, trianglesOwned}
 use Rattle.bounding.proofs.Bounding.{sides-are-boundary as are-boundary, sides-once as each-once, at-most-one as none-above, owned-once, frame-after}
@@ -38,7 +40,8 @@ use Rattle.owners.specs.Owners.{Ownership, owned, notCarriedAt, judgeFrom, Owne
 use Rattle.owners.proofs.Carried.{answered}
 use Rattle.owners.proofs.Polygons.{EachCarried, all-carried}
 use Rattle.sheet.specs.Numbers.{Sheet, memberNumbers, counted}
-use Rattle.written.specs.Held.{SheetHeld, ReadSheet, sheet, refused as unread, readSheet}
+use Rattle.written.specs.Held.{SheetHeld}
+use Rattle.written.specs.Reading.{ReadSheet, sheet, refused as unread, readSheet}
 use Rattle.edges.proofs.Triangles.{held-keys}
 use Rattle.judged.specs.Judged.{judged, withSets, ofRead, judgedSheet}
 

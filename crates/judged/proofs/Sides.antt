@@ -9,17 +9,19 @@ use native.Mathlib.Omega.{arith}
 use lib.ListN.{length, getD, take, length-map}
 use Rattle.whole.specs.Sums.{All}
 use Rattle.whole.proofs.Sums.{all-map}
-use Rattle.plane.specs.Corners.{Held}
+use Rattle.plane.specs.Keys.{Held, keyOf, pointAt}
 use Rattle.plane.specs.Boundaries.{sidesOf}
-use Rattle.plane.specs.Keys.{keyOf, pointAt}
 use Rattle.table.specs.Table.{RuleB}
-use Rattle.table.specs.Sides.{trianglesOf, tailsOf, sideAt, opposites}
+use Rattle.table.specs.Sides.{trianglesOf, tailsOf, sideAt}
+use Rattle.table.specs.Opposites.{opposites}
 use Rattle.table.proofs.Shares.{length-opposites}
-use Rattle.bounding.specs.Sides.{boundarySides, trianglesOwned, boundaryNumbers}
+use Rattle.bounding.specs.Sides.{boundarySides, trianglesOwned}
+use Rattle.bounding.specs.Numbered.{boundaryNumbers}
 use Rattle.bounding.proofs.Bounding.{by-number}
 use Rattle.bounding.proofs.Laying.{bounding-below}
 use Rattle.sheet.specs.Numbers.{Sheet, memberNumbers, counted}
-use Rattle.little.specs.Bytes.{heldBytes, pointBytes, sideBytes, endOf, cornerHeld, sideHeld}
+use Rattle.little.specs.Bytes.{heldBytes, pointBytes, sideBytes}
+use Rattle.little.specs.Held.{endOf, cornerHeld, sideHeld}
 use Rattle.written.specs.Held.{SheetHeld}
 use Rattle.edges.specs.Standing.{cornerAt}
 use Rattle.edges.proofs.Walk.{point-at}

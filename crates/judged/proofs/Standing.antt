@@ -12,7 +12,8 @@ use Rattle.owner_sets.specs.declared.Owning.{Owning}
 use Rattle.owner_sets.specs.declared.Owning.the-variants.{Sets, Refused}
 use Rattle.owner_sets.proofs.Standing.{polygons-stand}
 use Rattle.owner_sets.proofs.Following.{polygons-count}
-use Rattle.judged.specs.Judged.{refusal, judgedSheet, Stands, JudgedAs}
+use Rattle.judged.specs.Judged.{refusal, judgedSheet}
+use Rattle.judged.specs.Held.{Stands, JudgedAs}
 use Rattle.judged.proofs.Repaired.{judged-owners, judged-rules, pairs-up}
 
 module _ (s : List ℕ) (r : Owning) (numbers opposite l : List ℕ) (e : JudgedAs s r numbers opposite l) where

@@ -1,15 +1,9 @@
 -- From bytes to a judged sheet: what reading answers, then the table rules, then the judging of the polygons in number order.
-use mathlib.Core.Path.{_≡_}
 use mathlib.Core.List.{List}
-use Prim.Native.Nat.{ℕ, _*_}
-use lib.ListN.{length, take}
-use Rattle.plane.specs.Boundaries.{sidesOf}
-use Rattle.table.specs.Sides.{opposites}
+use Prim.Native.Nat.{ℕ}
 use Rattle.sheet.specs.Numbers.{Sheet}
-use Rattle.written.specs.Held.{SheetHeld, ReadSheet, sheet, refused as unread, readSheet}
+use Rattle.written.specs.Reading.{ReadSheet, sheet, refused as unread, readSheet}
 use Rattle.owners.specs.Owners.{Owned, sets, refusal as refused, ownersOf}
-use Rattle.owner_sets.specs.declared.Owning.{Owning}
-use Rattle.owner_sets.specs.declared.Owning.the-variants.{Sets, Refused}
 
 -- What bytes come to: a sheet with the owner set of each triangle of its table, or a refusal with its code and item.
 pub data JudgedSheet : Type 0 where
@@ -26,18 +20,3 @@ ofRead (unread code item) = refusal code item
 
 unfoldable pub judgedSheet : List ℕ → JudgedSheet
 judgedSheet s = ofRead (readSheet s)
-
--- The bytes come to a sheet of t triangles: it stands at the front of `numbers`, the owner sets stand at the front of l, and the numbers of the
--- reverses of the table's sides at the front of `opposite`.
-pub record Stands (s : List ℕ) (t : ℕ) (numbers opposite l : List ℕ) : Type 0 where
-  pub n : Sheet
-  pub size : ℕ
-  pub held : SheetHeld n (take size numbers)
-  pub many : length (n .table) ≡ t
-  pub comes : judgedSheet s ≡ judged n (take t l)
-  pub crossed : take (3 * t) opposite ≡ opposites (sidesOf (n .table))
-
--- The answer with its three lists is what the bytes come to.
-abbrev pub JudgedAs : List ℕ → Owning → List ℕ → List ℕ → List ℕ → Type 0
-JudgedAs s (Sets t) numbers opposite l = Stands s t numbers opposite l
-JudgedAs s (Refused code item) numbers opposite l = judgedSheet s ≡ refusal code item

@@ -1,2 +1,3 @@
 -- From bytes to a judged sheet.
 pub mod Judged
+pub mod Held

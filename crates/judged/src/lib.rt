@@ -1,7 +1,7 @@
 // From bytes to a judged sheet: reading, the table rules, and the judging of the polygons in number order.
 ghost use Prim.Native.Nat.{_≤_};
 ghost use lib.ListN.{length};
-ghost use Rattle.judged.specs.Judged.{JudgedAs};
+ghost use Rattle.judged.specs.Held.{JudgedAs};
 use owner_sets::Owning;
 use sheet::Ending;
 

@@ -4,7 +4,7 @@
 use mathlib.Core.Path.{_≡_, refl, sym, _∙_, ap, ap₂, subst}
 use mathlib.Core.Logic.{_↔_}
 use mathlib.Core.Bool.{Bool}
-use mathlib.Core.List.{List, [], _∷_, _++_, flatMap}
+use mathlib.Core.List.{List, [], _∷_, flatMap, _++_}
 use Prim.Native.Nat.{ℕ, suc, _≤_, _<_}
 use native.Mathlib.Omega.{arith}
 use native.Mathlib.Decide.{decLe}
@@ -27,9 +27,10 @@ use Rattle.counting.proofs.Counted.{tallied-sum}
 use Rattle.counting.proofs.Walking.{first-few}
 use Rattle.judging.specs.declared.Judging.{Judging}
 use Rattle.judging.specs.declared.Judging.the-variants.{Carried as Yes, NotCarried as No}
-use Rattle.owners.specs.Judging.{Carries, carried, notCarried, code, judge}
-use Rattle.judging.specs.Preparing.{Indexed, Prepared, judgedOf}
-use Rattle.owners.proofs.Carried.{Owned, answered, answers, not-carried}
+use Rattle.owners.specs.Judging.{Carries, carried, notCarried, code, judge, AreaOfOwnership}
+use Rattle.judging.specs.Preparing.{Indexed, Prepared}
+use Rattle.judging.specs.Judged.{judgedOf}
+use Rattle.owners.proofs.Carried.{answered, answers, not-carried}
 
 -- The pieces are those that the definitions cut.
 all-pieces : (cs ds : List Point) → ((c : Point) → Among samePoint c cs ↔ Among samePoint c ds) → (l : List Edge) → allPieces cs l ≡ allPieces ds l
@@ -115,9 +116,16 @@ module _ (keys ordered index opposite order : List ℕ) (prepared : Prepared key
 -- What the judging of one polygon says of its answer: 20 exactly if no set of triangles has the member's boundary; a carried member's labels are
 -- the only set that has it, and their triangles' double areas add up to the member's.
 pub judging-says : (table : List Triangle) (m : Member) → RuleA table → RuleB table → (r : Judging) (labels : List Bool) → judgedOf r labels ≡ judge table m
-    → ((code (judgedOf r labels) ≡ 20) ↔ ((s : List Bool) → SetOf table s → Carries table s m → ⊥)) × (r ≡ Yes → Owned table m labels)
+    → ((code (judgedOf r labels) ≡ 20) ↔ ((s : List Bool) → SetOf table s → Carries table s m → ⊥)) × (r ≡ Yes → AreaOfOwnership table m labels)
 judging-says table m area once Yes labels e = (
   (λ q. absurd (omega arith), λ h. absurd (let o = answered table m area once labels (sym e) in h labels (o .of-table) (o .carries))),
   λ q. answered table m area once labels (sym e),
 )
 judging-says table m area once No labels e = ((λ q. not-carried table m area once .0 (sym e), λ h. refl), λ q. absurd (let z : _≡_ {A = ℕ} 0 1 = cc q in omega arith))
+
+-- Two outcomes that the contract of `judge` allows are equal: the answer, and where the polygon is carried every label.
+pub one-outcome : (r r′ : Judging) (a b : List Bool) → judgedOf r a ≡ judgedOf r′ b → (r ≡ r′) × (r ≡ Yes → a ≡ b)
+one-outcome Yes Yes a b e = (refl, λ q. cc)
+one-outcome Yes No a b e = absurd (let z : _≡_ {A = ℕ} 0 1 = cc in omega arith)
+one-outcome No Yes a b e = absurd (let z : _≡_ {A = ℕ} 0 1 = cc in omega arith)
+one-outcome No No a b e = (refl, λ q. absurd (let z : _≡_ {A = ℕ} 0 1 = cc q in omega arith))

@@ -1,7 +1,6 @@
--- What is found once for a table, and how the code's answer shows the judging of one member.
+-- What is found once for a table, so that its polygons can be judged.
 use mathlib.Core.Path.{_≡_}
 use mathlib.Core.Logic.{_↔_}
-use mathlib.Core.Bool.{Bool}
 use mathlib.Core.List.{List}
 use Prim.Native.Nat.{ℕ, _*_}
 use lib.ListN.{length}
@@ -10,11 +9,9 @@ use Rattle.plane.specs.Points.{Point, samePoint}
 use Rattle.plane.specs.Boundaries.{sidesOf}
 use Rattle.plane.specs.Keys.{pointsAt}
 use Rattle.table.specs.Table.{corners, RuleA, RuleB}
-use Rattle.table.specs.Sides.{trianglesOf, opposites, Reaches}
+use Rattle.table.specs.Sides.{trianglesOf, Reaches}
+use Rattle.table.specs.Opposites.{opposites}
 use Rattle.counting.specs.Counting.{Looked}
-use Rattle.judging.specs.declared.Judging.{Judging}
-use Rattle.judging.specs.declared.Judging.the-variants.{Carried, NotCarried}
-use Rattle.owners.specs.Judging.{Judged, carried, notCarried}
 
 -- The table whose triangles have these corners: its corners in order and its sides are looked up, and the side across each side is known.
 pub record Indexed (keys ordered index opposite : List ℕ) : Type 0 where
@@ -30,8 +27,3 @@ pub record Prepared (keys ordered index opposite order : List ℕ) : Type 0 wher
   pub indexed : Indexed keys ordered index opposite
   pub areas : RuleA (trianglesOf keys)
   pub reaches : Reaches opposite order
-
--- The answer with the labels: carried by the labelled set, or not carried.
-abbrev pub judgedOf : Judging → List Bool → Judged
-judgedOf Carried labels = carried labels
-judgedOf NotCarried labels = notCarried

@@ -8,7 +8,8 @@ ghost use Rattle.plane.specs.Keys.{pairs};
 ghost use Rattle.table.specs.Sides.{trianglesOf};
 ghost use Rattle.counting.specs.Counting.{Edged};
 ghost use Rattle.owners.specs.Judging.{judge};
-ghost use Rattle.judging.specs.Preparing.{Prepared, judgedOf};
+ghost use Rattle.judging.specs.Preparing.{Prepared};
+ghost use Rattle.judging.specs.Judged.{judgedOf};
 
 // What the judging of a polygon answers: carried, by the labelled set; or not carried.
 pub enum Judging {

@@ -3,7 +3,7 @@ ghost use mathlib.Core.Path.{_≡_};
 ghost use mathlib.Core.Option.{none, some};
 ghost use Prim.Native.Nat.{ℕ, suc, _/_, _≤_, _<_};
 ghost use lib.ListN.{length};
-ghost use Rattle.whole.specs.Numbers.{Told};
+ghost use Rattle.whole.specs.Tests.{Told};
 ghost use Rattle.whole.specs.Sums.{All, bit};
 ghost use Rattle.table.specs.Sides.{across, Shares};
 ghost use Rattle.labels.specs.Labels.{Sided, forcing};

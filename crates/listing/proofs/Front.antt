@@ -8,7 +8,8 @@ use lib.Seq.{take-take, take-at}
 use Rattle.whole.specs.Sums.{All}
 use Rattle.whole.proofs.Sums.{all-take}
 use Rattle.plane.specs.Points.{Triangle}
-use Rattle.plane.specs.Corners.{millimetres, Held}
+use Rattle.plane.specs.Corners.{millimetres}
+use Rattle.plane.specs.Keys.{Held}
 use Rattle.sheet.specs.Numbers.{Sheet, triangleNumbers, memberNumbers, counted}
 use Rattle.edges.specs.Standing.{Stands}
 use Rattle.edges.proofs.Triangles.{table-room}

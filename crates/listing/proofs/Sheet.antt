@@ -2,7 +2,7 @@
 -- area of the triangles it is of, and the double area of a polygon from its corners is that of its set of triangles. Assumes nothing.
 use mathlib.Core.Path.{_≡_, refl, sym, _∙_, ap, ap₂, subst}
 use mathlib.Core.Bool.{Bool, true, false, cond}
-use mathlib.Core.List.{List, _++_, map}
+use mathlib.Core.List.{List, map, _++_}
 use Prim.Native.Nat.{ℕ, _+_, _*_, _≤_, _<_}
 use native.Mathlib.Omega.{arith}
 use lib.Dec.{eqb}
@@ -11,24 +11,27 @@ use lib.ListN.{length, getD, take, length-take, length-map}
 use lib.Seq.{getD-take}
 use Rattle.plane.specs.Points.{double}
 use Rattle.plane.specs.Boundaries.{sidesOf}
-use Rattle.table.specs.Sides.{opposites}
+use Rattle.table.specs.Opposites.{opposites}
 use Rattle.table.specs.Sets.{chosen}
 use Rattle.marks.specs.Marks.{standingOf}
 use Rattle.regions.specs.Spreading.{Paired}
-use Rattle.repair.specs.Repair.{repaired, repairedAs}
+use Rattle.repair.specs.Repair.{repaired}
+use Rattle.repair.specs.Giving.{RepairedTo}
+use Rattle.repair.proofs.Giving.{answered-true, answered-false}
 use Rattle.sheet.specs.Numbers.{Sheet}
 use Rattle.figures.specs.declared.Figure.{Figure}
 use Rattle.figures.specs.declared.Figure.the-variants.{Gaps, Overlaps}
-use Rattle.figures.specs.Figures.{isGap, isOverlap, marksOf, total}
+use Rattle.figures.specs.Figures.{marksOf, total}
+use Rattle.figures.specs.Standings.{isGap, isOverlap, isSingle}
 use Rattle.owner_sets.proofs.Standing.{polygons-stand}
 use Rattle.owner_sets.proofs.Following.{polygons-count}
-use Rattle.judged.specs.Judged.{Stands}
+use Rattle.judged.specs.Held.{Stands}
 use Rattle.judged.proofs.Repaired.{judged-owners, judged-rules, pairs-up}
 use Rattle.judged.proofs.Figures.{polygons-before, polygons-after, gaps-are, overlaps-are, figure-lines, verdict-is}
 use Rattle.text.specs.Text.{lineOf}
 use Rattle.printing.specs.Lines.{sheetWord, polygonWord, gapWord, overlapWord, afterWord, cleanLine, repairLine, numbered}
 use Rattle.printing.specs.Printing.{Figures, lineBy, verdictBy, headBy, afterBy, linesBy}
-use Rattle.listing.specs.Listing.{isSingle, figureLine, verdictLine, headOf, afterLines, listingOf}
+use Rattle.listing.specs.Listing.{figureLine, verdictLine, headOf, afterLines, listingOf}
 use Rattle.listing.specs.Held.{Judged, AreasOf}
 
 module _ {n : Sheet} {numbers opposite l : List ℕ} (j : Judged n numbers opposite l) where
@@ -79,15 +82,14 @@ module _ {n : Sheet} {numbers opposite l : List ℕ} (j : Judged n numbers oppos
         (line-is overlapWord Overlaps (map (λ set. isOverlap (standingOf set)) l) (overlaps-are l owners (sym each))))
         verdict-same
 
-    after-is : (done : Bool) → repairedAs done owners ≡ repaired opposite l → afterBy done (length (n .polygons)) l owners areas ≡ afterLines n (repaired (opposites (sidesOf (n .table))) l)
+    after-is : {lent : List ℕ} (done : Bool) → RepairedTo (repaired opposite l) lent done owners → afterBy done (length (n .polygons)) l owners areas ≡ afterLines n (repaired (opposites (sidesOf (n .table))) l)
     after-is true e =
         ap (numbered afterWord 1) (sym (polygons-after (n .table) (n .polygons) (j .owned) areas owners (a .are) (each ∙ sym sets-many) (length (n .polygons))))
-        ∙ ap (afterLines n) (e ∙ ap (λ o. repaired o l) (j .crossed))
-    after-is false e = ap (afterLines n) (e ∙ ap (λ o. repaired o l) (j .crossed))
+        ∙ ap (afterLines n) (sym (answered-true (repaired opposite l) e refl) ∙ ap (λ o. repaired o l) (j .crossed))
+    after-is false e = ap (afterLines n) (sym (answered-false (repaired opposite l) e refl) ∙ ap (λ o. repaired o l) (j .crossed))
 
     -- The lines by the figures are the listing.
-    pub listing-is : (done : Bool) → repairedAs done owners ≡ repaired opposite l
-        → linesBy done (length (n .polygons)) l owners areas ≡ listingOf n l
+    pub listing-is : {lent : List ℕ} (done : Bool) → RepairedTo (repaired opposite l) lent done owners → linesBy done (length (n .polygons)) l owners areas ≡ listingOf n l
     listing-is done e = ap₂ _++_ head-is (after-is done e)
 
 -- What stands in the lists of a judged sheet is a judged sheet as it is held here.

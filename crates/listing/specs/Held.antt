@@ -7,7 +7,7 @@ use lib.ListN.{take}
 use Rattle.whole.specs.Sums.{All}
 use Rattle.plane.specs.Points.{double}
 use Rattle.plane.specs.Boundaries.{sidesOf}
-use Rattle.table.specs.Sides.{opposites}
+use Rattle.table.specs.Opposites.{opposites}
 use Rattle.sheet.specs.Numbers.{Sheet}
 use Rattle.written.specs.Held.{SheetHeld}
 use Rattle.owners.specs.Owners.{sets, ownersOf}

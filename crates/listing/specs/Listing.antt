@@ -1,6 +1,6 @@
 -- The printed listing: `sheet` triangles polygons; for each polygon `polygon` number double-area; `gap` and `overlap`, each with triangles and their
 -- double area; `verdict` clean or repair; for each again `after` number double-area owned. A refusal prints `refused` code item.
-use mathlib.Core.Bool.{Bool, true, false, cond}
+use mathlib.Core.Bool.{cond}
 use mathlib.Core.List.{List, _++_, map}
 use mathlib.Core.Option.{Option, none, some}
 use Prim.Native.Nat.{ℕ}
@@ -10,10 +10,8 @@ use Rattle.whole.specs.Sums.{every, sum}
 use Rattle.plane.specs.Points.{Triangle, double}
 use Rattle.plane.specs.Boundaries.{sidesOf}
 use Rattle.plane.specs.Members.{doubleArea}
-use Rattle.table.specs.Sides.{opposites}
+use Rattle.table.specs.Opposites.{opposites}
 use Rattle.table.specs.Sets.{chosen}
-use Rattle.marks.specs.declared.Standing.{Standing}
-use Rattle.marks.specs.declared.Standing.the-variants.{Gap, Single, Overlap}
 use Rattle.marks.specs.Marks.{standingOf}
 use Rattle.regions.specs.Regions.{from}
 use Rattle.repair.specs.Repair.{repaired}
@@ -22,7 +20,7 @@ use Rattle.sheet.specs.Numbers.{Sheet}
 use Rattle.judged.specs.Judged.{JudgedSheet, judged, refusal}
 use Rattle.text.specs.Text.{lineOf}
 use Rattle.printing.specs.Lines.{sheetWord, polygonWord, gapWord, overlapWord, afterWord, refusedWord, cleanLine, repairLine, numbered}
-use Rattle.figures.specs.Figures.{isGap, isOverlap}
+use Rattle.figures.specs.Standings.{isGap, isSingle, isOverlap}
 
 -- A line for some triangles: the word, how many they are, and their double area.
 abbrev pub figureLine : List ℕ → List Triangle → List ℕ
@@ -34,11 +32,6 @@ gapsOf table sets = chosen table (map (λ set. isGap (standingOf set)) sets)
 
 abbrev pub overlapsOf : List Triangle → List ℕ → List Triangle
 overlapsOf table sets = chosen table (map (λ set. isOverlap (standingOf set)) sets)
-
-abbrev pub isSingle : Standing → Bool
-isSingle Gap = false
-isSingle (Single k) = true
-isSingle (Overlap k) = false
 
 abbrev pub verdictLine : List ℕ → List ℕ
 verdictLine sets = cond (every (λ set. isSingle (standingOf set)) sets) cleanLine repairLine

@@ -2,9 +2,10 @@
 ghost use mathlib.Core.Path.{_≡_};
 ghost use mathlib.Core.List.{List};
 ghost use Prim.Native.Nat.{ℕ, _≤_};
-ghost use lib.ListN.{length, take};
+ghost use lib.ListN.{length};
 ghost use Rattle.sheet.specs.Numbers.{Sheet};
 ghost use Rattle.judged.specs.Judged.{judgedSheet};
+ghost use Rattle.text.specs.Putting.{Put};
 ghost use Rattle.listing.specs.Listing.{listingOf, listing};
 ghost use Rattle.listing.specs.Held.{Judged, AreasOf};
 use owner_sets::Owning;
@@ -42,7 +43,7 @@ fn lay_areas(numbers: &[u32], areas: &mut [u64])
 // The listing of a judged sheet.
 fn put_judged(numbers: &[u32], opposite: &[usize], sets: &[u64], text: &mut [u8]) -> usize
     requires { ⌜ ((n : Sheet) × Judged n (now numbers) (now opposite) (now sets)) × (6600 ≤ length (now text)) ⌝ }
-    ensures { λ r. ⌜ (r ≤ 6600) × ((n : Sheet) → Judged n (now (numbers .entry)) (now (opposite .entry)) (now (sets .entry)) → take r (now (text .exit)) ≡ listingOf n (now (sets .entry))) ⌝ }
+    ensures { λ r. ⌜ (r ≤ 6600) × ((n : Sheet) → Judged n (now (numbers .entry)) (now (opposite .entry)) (now (sets .entry)) → Put 0 (listingOf n (now (sets .entry))) (now (text .entry)) r (now (text .exit))) ⌝ }
 {
     let n = sets.len();
     let polygons = numbers[1 + 6 * n] - 10_000_000;
@@ -71,10 +72,10 @@ fn set_list() -> [u64; 1024]
     [0; 1024]
 }
 
-// The listing of a sheet, laid down at the front of the lent text.
+// The listing of a sheet, put at the front of the lent text; what stands behind it keeps its value.
 pub fn print(sheet: &[u8], text: &mut [u8]) -> usize
     requires { ⌜ 6600 ≤ length (now text) ⌝ }
-    ensures { λ r. ⌜ (r ≤ 6600) × (take r (now (text .exit)) ≡ listing (judgedSheet (now (sheet .entry)))) ⌝ }
+    ensures { λ r. ⌜ (r ≤ 6600) × Put 0 (listing (judgedSheet (now (sheet .entry)))) (now (text .entry)) r (now (text .exit)) ⌝ }
 {
     let mut numbers = number_list();
     let mut opposite = side_list();

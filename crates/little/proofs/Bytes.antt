@@ -8,7 +8,8 @@ use lib.ListN.{length, getD, take, drop, length-append, length-drop}
 use lib.Seq.{take-suc, take-at, sets, sets-eq, drop-drop, drop-append-add, length-take-le}
 use Rattle.whole.proofs.Sums.{flatMap-++}
 use Rattle.little.specs.Ordered.{bytes}
-use Rattle.little.specs.Bytes.{heldBytes, setBytes, cornerHeld, sideHeld}
+use Rattle.little.specs.Bytes.{heldBytes, setBytes}
+use Rattle.little.specs.Held.{cornerHeld, sideHeld}
 
 pub held-length : (h : ℕ) → length (heldBytes h) ≡ 4
 unfolding bytes

@@ -13,7 +13,8 @@ use lib.ListN.{length, drop, getD, length-take, length-drop, length-reverse, dro
 use lib.Pow.{pow-add, pow-mono}
 use lib.Seq.{drop-cons, getD-take, getD-drop, getD-at}
 use Rattle.whole.specs.Sums.{All}
-use Rattle.little.specs.Ordered.{number, bytes, ordered, numberOf, bytesOf, placeOf, field}
+use Rattle.little.specs.Ordered.{number, bytes, ordered, numberOf, bytesOf, field}
+use Rattle.little.specs.Places.{placeOf}
 
 -- ---- the reverse of a list, by places
 pub getD-reverse : (l : List ℕ) (j d : ℕ) → j < length l → getD (reverse l) j d ≡ getD l (length l - 1 - j) d

@@ -1,8 +1,7 @@
 -- The bytes of answers: coordinates and counts, owner sets, sides.
 use mathlib.Core.List.{List, _++_}
-use Prim.Native.Nat.{ℕ, _+_, _-_, _*_, _%_, _≤_}
+use Prim.Native.Nat.{ℕ}
 use lib.IntN.{ℤ}
-use lib.ListN.{length, getD}
 use mir.Syntax.{w32}
 use mir.Val.{ofZ}
 use Rattle.plane.specs.Corners.{millimetres}
@@ -27,17 +26,3 @@ pointBytes p = i32 (p .x) ++ i32 (p .y)
 
 abbrev pub sideBytes : Edge → List ℕ
 sideBytes e = pointBytes (e .from) ++ pointBytes (e .to)
-
--- Side k of the table off the held numbers: corner k, and then the next corner of its triangle.
-abbrev pub endOf : ℕ → ℕ
-endOf k = k - k % 3 + (k + 1) % 3
-
-abbrev pub cornerHeld : List ℕ → ℕ → List ℕ
-cornerHeld numbers c = heldBytes (getD numbers (2 * c + 1) 0) ++ heldBytes (getD numbers (2 * c + 2) 0)
-
-abbrev pub sideHeld : List ℕ → ℕ → List ℕ
-sideHeld numbers k = cornerHeld numbers k ++ cornerHeld numbers (endOf k)
-
--- The corners of the triangle of side k are among the numbers.
-abbrev pub SideIn : List ℕ → ℕ → Type 0
-SideIn numbers k = 2 * (k - k % 3) + 7 ≤ length numbers

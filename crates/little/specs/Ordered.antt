@@ -1,7 +1,7 @@
 -- Unsigned numbers and doubles as bytes, in either byte order.
 use mathlib.Core.Bool.{Bool, true, false}
 use mathlib.Core.List.{List, [], _∷_, reverse}
-use Prim.Native.Nat.{ℕ, zero, suc, _+_, _-_, _*_, _/_, _%_}
+use Prim.Native.Nat.{ℕ, zero, suc, _+_, _*_, _/_, _%_}
 use lib.Dec.{leb}
 use lib.Ieee.{Float, binary64, ofBits}
 use lib.ListN.{length, take, drop}
@@ -26,11 +26,6 @@ numberOf little l = number (ordered little l)
 
 abbrev pub bytesOf : Bool → ℕ → ℕ → List ℕ
 bytesOf little n v = ordered little (bytes n v)
-
--- Where the byte of the weight 256 ^ (n - 1 - k) of n bytes stands.
-abbrev pub placeOf : Bool → ℕ → ℕ → ℕ → ℕ
-placeOf false at n k = at + k
-placeOf true at n k = at + (n - 1 - k)
 
 -- n bytes remain at a place.
 abbrev pub remains : List ℕ → ℕ → ℕ → Bool

@@ -9,7 +9,8 @@ use native.Mathlib.Numerals.{add-one}
 use native.Mathlib.Omega.{arith}
 use lib.ListN.{length, getD, set, take, drop, replicate, length-replicate, getD-replicate, List·getD-eq-default}
 use Rattle.whole.specs.Sums.{All, bit}
-use Rattle.marks.specs.Marks.{withMarks, ownerSets, marked}
+use Rattle.marks.specs.Marks.{withMarks, ownerSets}
+use Rattle.marks.specs.Marking.{marked}
 use Rattle.marks.proofs.Bits.{digit-zero, digit-suc, digit-none}
 
 -- ---- the marks of one more polygon

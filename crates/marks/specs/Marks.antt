@@ -1,7 +1,7 @@
 -- The owners of a triangle fit in one 64-bit set: a number whose bit k-1 stands for polygon k.
 use mathlib.Core.Bool.{Bool, cond}
 use mathlib.Core.List.{List, [], _∷_}
-use Prim.Native.Nat.{ℕ, zero, suc, _+_, _*_, _/_, _%_, _^_}
+use Prim.Native.Nat.{ℕ, zero, suc, _+_, _*_, _/_, _%_}
 use lib.Dec.{eqb}
 use lib.ListN.{replicate}
 use Rattle.whole.specs.Sums.{bit}
@@ -18,12 +18,6 @@ withMarks (b ∷ s) (x ∷ l) = (bit b + 2 * x) ∷ withMarks s l
 abbrev pub ownerSets : ℕ → List (List Bool) → List ℕ
 ownerSets n [] = replicate n 0
 ownerSets n (s ∷ l) = withMarks s (ownerSets n l)
-
--- The marks of one more polygon, behind the k there are: bit k.
-abbrev pub marked : ℕ → List Bool → List ℕ → List ℕ
-marked k [] l = []
-marked k (b ∷ s) [] = []
-marked k (b ∷ s) (x ∷ l) = (x + bit b * 2 ^ k) ∷ marked k s l
 
 -- The numbers of the polygons in a set, in ascending order: k + 1 for each bit k among the lowest n.
 abbrev pub ownersIn : ℕ → ℕ → ℕ → List ℕ

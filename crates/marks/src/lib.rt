@@ -3,7 +3,8 @@ ghost use mathlib.Core.Path.{_≡_};
 ghost use Prim.Native.Nat.{_+_, _*_, _^_, _<_};
 ghost use lib.ListN.{length};
 ghost use Rattle.whole.specs.Sums.{All, bit};
-ghost use Rattle.marks.specs.Marks.{marked, standingOf};
+ghost use Rattle.marks.specs.Marks.{standingOf};
+ghost use Rattle.marks.specs.Marking.{marked};
 
 // How a triangle stands: a gap, of a single owner, or an overlap with its smallest owner number.
 pub enum Standing {

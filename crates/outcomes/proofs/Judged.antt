@@ -9,15 +9,17 @@ use borrow.Author.Tests.{le-leb, lt-leb}
 use lib.Dec.{leb}
 use lib.ListN.{length, take}
 use Rattle.plane.specs.Boundaries.{sidesOf}
-use Rattle.table.specs.Sides.{opposites}
+use Rattle.table.specs.Opposites.{opposites}
 use Rattle.sheet.specs.Numbers.{Sheet}
 use Rattle.lent.specs.Answered.{Outcome, refusal, bytes}
 use Rattle.repair.proofs.OneOwner.{repaired-length}
-use Rattle.bounding.specs.Sides.{boundaryNumbers}
+use Rattle.bounding.specs.Numbered.{boundaryNumbers}
 use Rattle.set_bytes.specs.Sets.{setsOutcome}
-use Rattle.answers.specs.Answers.{afterRepair, numbersAfter, ownersOutcome, sidesHeld, sidesOutcome}
+use Rattle.answers.specs.Answers.{afterRepair, numbersAfter}
+use Rattle.answers.specs.Held.{ownersOutcome, sidesHeld, sidesOutcome}
 use Rattle.listing.specs.Listing.{listing}
-use Rattle.judged.specs.Judged.{judgedSheet, refusal as refused, Stands}
+use Rattle.judged.specs.Judged.{judgedSheet, refusal as refused}
+use Rattle.judged.specs.Held.{Stands}
 use Rattle.judged.proofs.Standing.{once, sets-many}
 use Rattle.judged.proofs.Sides.{sides-held, sides-as-many}
 use Rattle.outcomes.specs.Entries.{onJudged, sheetOwnerSets, sheetOwners, repairOf, sidesAfter, ownedSides, boundaryOutcome, sheetBoundary, sheetListing}

@@ -1,4 +1,4 @@
 -- The laws of what the entries come to.
 pub mod Outcomes
 pub mod Judged
-pub mod Trip
+pub mod Sized

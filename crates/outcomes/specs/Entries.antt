@@ -7,7 +7,7 @@ use lib.Dec.{eqb, leb}
 use lib.ListN.{length}
 use Rattle.plane.specs.Points.{Edge}
 use Rattle.plane.specs.Boundaries.{sidesOf}
-use Rattle.table.specs.Sides.{opposites}
+use Rattle.table.specs.Opposites.{opposites}
 use Rattle.sheet.specs.Numbers.{Sheet}
 use Rattle.sheet.specs.Reading.{Reading, readingOf}
 use Rattle.written.specs.Given.{sheetGiven, writeOutcome}

@@ -6,7 +6,7 @@ ghost use lib.ListN.{length, drop};
 ghost use Rattle.whole.specs.Sums.{All};
 ghost use Rattle.lent.specs.Answered.{Answered};
 ghost use Rattle.regions.specs.Spreading.{Paired};
-ghost use Rattle.answers.specs.Answers.{ownersOutcome};
+ghost use Rattle.answers.specs.Held.{ownersOutcome};
 
 // Writes the owner number of each triangle, one byte each, over the front of the lent bytes.
 fn write_owners(owners: &[usize], out: &mut [u8])

@@ -18,12 +18,13 @@ use Rattle.edges.specs.declared.Laid.{Laid}
 use Rattle.edges.specs.Standing.{LaysDown}
 use Rattle.edges.proofs.Walk.{count-first}
 use Rattle.counting.specs.Counting.{Edged}
-use Rattle.marks.specs.Marks.{ownerSets, marked}
+use Rattle.marks.specs.Marks.{ownerSets}
+use Rattle.marks.specs.Marking.{marked}
 use Rattle.marks.proofs.Owning.{owner-sets-more, owner-sets-below, length-owner-sets}
 use Rattle.judging.specs.declared.Judging.the-variants.{Carried, NotCarried}
 use Rattle.owners.specs.Judging.{carried, notCarried, judge}
 use Rattle.owners.specs.Owners.{Ownership, owned, notCarriedAt, followed, judgeFrom, sets, ofOwnership}
-use Rattle.judging.specs.Preparing.{judgedOf}
+use Rattle.judging.specs.Judged.{judgedOf}
 use Rattle.owner_sets.specs.declared.Turn.{Turn}
 use Rattle.owner_sets.specs.Owning.{PolygonAt, PolygonsAt, TurnOf, ownedBy}
 

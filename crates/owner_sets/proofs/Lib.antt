@@ -2,3 +2,4 @@
 pub mod Standing
 pub mod Checking
 pub mod Following
+pub mod OneOutcome

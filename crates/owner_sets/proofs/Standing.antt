@@ -7,7 +7,7 @@ use lib.ListN.{length, getD, drop}
 use lib.Seq.{take-append-le, take-all}
 use Rattle.plane.specs.Points.{Triangle}
 use Rattle.plane.specs.Boundaries.{sidesOf}
-use Rattle.table.specs.Sides.{opposites}
+use Rattle.table.specs.Opposites.{opposites}
 use Rattle.plane.specs.Corners.{millimetres}
 use Rattle.sheet.specs.Numbers.{Sheet, triangleNumbers, counted, memberNumbers}
 use Rattle.written.specs.Held.{SheetHeld}

@@ -10,12 +10,12 @@ use Rattle.plane.specs.Points.{Triangle}
 use Rattle.plane.specs.Members.{Member, memberEdges}
 use Rattle.plane.specs.Corners.{millimetres}
 use Rattle.plane.specs.Boundaries.{sidesOf}
-use Rattle.table.specs.Sides.{opposites}
+use Rattle.table.specs.Opposites.{opposites}
 use Rattle.sheet.specs.Numbers.{Sheet, counted, memberNumbers}
 use Rattle.edges.specs.Standing.{Stands}
 use Rattle.owners.specs.Judging.{judge, notCarried, code}
 use Rattle.owners.specs.Owners.{Owned, sets, refusal, ownersOf}
-use Rattle.judging.specs.Preparing.{judgedOf}
+use Rattle.judging.specs.Judged.{judgedOf}
 use Rattle.owner_sets.specs.declared.Owning.{Owning}
 use Rattle.owner_sets.specs.declared.Owning.the-variants.{Sets, Refused as Refusal}
 use Rattle.owner_sets.specs.declared.Turn.{Turn}

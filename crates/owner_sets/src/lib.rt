@@ -6,7 +6,7 @@ ghost use lib.IntN.{ℤ};
 ghost use lib.ListN.{length, replicate};
 ghost use Rattle.whole.specs.Sums.{All};
 ghost use Rattle.plane.specs.Members.{Member};
-ghost use Rattle.plane.specs.Corners.{Held};
+ghost use Rattle.plane.specs.Keys.{Held};
 ghost use Rattle.table.specs.Table.{RuleA};
 ghost use Rattle.table.specs.Sides.{trianglesOf};
 ghost use Rattle.sheet.specs.Numbers.{Sheet};

@@ -21,7 +21,7 @@ use Rattle.plane.proofs.Cuts.{pieces-sum}
 use Rattle.table.specs.Table.{corners, RuleA, RuleB}
 use Rattle.table.specs.Sets.{SetOf, chosen, allSets}
 use Rattle.table.proofs.Sets.{one-set}
-use Rattle.owners.specs.Judging.{Carries, Judged, carried, notCarried, search, judge}
+use Rattle.owners.specs.Judging.{Carries, Judged, carried, notCarried, search, judge, AreaOfOwnership}
 
 -- ---- the list of all sets has all sets
 sets-are : (table : List Triangle) → All (SetOf table) (allSets table)
@@ -59,14 +59,6 @@ found p P (s ∷ l) h = go (p s) refl (search p l) (found p P l (h .1))
     go false e (carried t) r = r
     go false e notCarried r = (subst (λ b. T b → ⊥) (sym e) (λ t. t), r)
 
--- ---- demand 3
--- What the set answered for a member is: a set of the table's triangles that carries it, the only one, with the member's double area.
-pub record Owned (table : List Triangle) (m : Member) (s : List Bool) : Type 0 where
-  pub of-table : SetOf table s
-  pub carries : Carries table s m
-  pub only : (t : List Bool) → SetOf table t → Carries table t m → t ≡ s
-  pub area : sum double (chosen table s) ≡ doubleArea m
-
 module _ (table : List Triangle) (m : Member) where
   -- The triangles of a set that carries the member have its double area, in any table.
   pub carried-area : (s : List Bool) → Carries table s m → sum double (chosen table s) ≡ doubleArea m
@@ -85,11 +77,11 @@ module _ (table : List Triangle) (m : Member) where
   tested s = agree-is (sidesOf (chosen table s)) (allPieces (corners table) (memberEdges m))
 
   module _ (area : RuleA table) (once : RuleB table) where
-    pub owned : (s : List Bool) → SetOf table s → Carries table s m → Owned table m s
+    pub owned : (s : List Bool) → SetOf table s → Carries table s m → AreaOfOwnership table m s
     owned s l h = record { of-table = l; carries = h; only = λ t k g. one-set table area once t s k l (λ e. g e ∙ sym (h e)); area = carried-area s h }
 
     -- The set answered is the only set that carries the member, and its triangles' double areas add up to the member's.
-    pub answered : (s : List Bool) → judge table m ≡ carried s → Owned table m s
+    pub answered : (s : List Bool) → judge table m ≡ carried s → AreaOfOwnership table m s
     answered s e = let h = subst (Found test (SetOf table) (allSets table)) e judged in owned s (h .1) (tested s .0 (h .0))
 
     -- A set that carries the member is the one answered.

@@ -13,9 +13,9 @@ use Rattle.table.specs.Table.{RuleA, RuleB, RuleC, Checked, passed, refused, ch
 use Rattle.table.proofs.Rules.{passes}
 use Rattle.marks.specs.Marks.{ownerSets}
 use Rattle.marks.proofs.Owning.{bit-stands}
-use Rattle.owners.specs.Judging.{Judged, carried, notCarried, judge}
+use Rattle.owners.specs.Judging.{Judged, carried, notCarried, judge, AreaOfOwnership}
 use Rattle.owners.specs.Owners.{Ownership, owned, notCarriedAt, followed, judgeFrom, sets, ofOwnership, ofChecked, ownersOf}
-use Rattle.owners.proofs.Carried.{Owned as OwnedBy, answered}
+use Rattle.owners.proofs.Carried.{answered}
 
 -- Each polygon is carried by its set.
 abbrev pub EachCarried : List Triangle → List Member → List (List Bool) → Type 0
@@ -63,7 +63,7 @@ module _ (table : List Triangle) (area : RuleA table) (once : RuleB table) where
   -- and its triangles' double areas add up to the polygon's.
   pub record BitsAre (ms : List Member) (numbers : List ℕ) (k : ℕ) : Type 0 where
     pub marks : List Bool
-    pub of-polygon : OwnedBy table (getD ms k []) marks
+    pub of-polygon : AreaOfOwnership table (getD ms k []) marks
     pub bits : (t : ℕ) → t < length table → getD numbers t 0 / 2 ^ k % 2 ≡ bit (getD marks t false)
 
   each-at : (ms : List Member) (l : List (List Bool)) → EachCarried table ms l → (k : ℕ) → k < length ms → judge table (getD ms k []) ≡ carried (getD l k [])

@@ -57,13 +57,14 @@ abbrev pub answer : Example → Answer
 answer (polygon m) = ofJudged (judge strips m)
 answer (table t) = ofChecked (checkTable t)
 
--- Examples 1 to 10.
+-- The strip table itself, which passes the three rules, and examples 1 to 10.
 abbrev pub rectangle : Member
 rectangle = ring (at 0 0 ∷ at 4 0 ∷ at 4 4 ∷ at 0 4 ∷ [])
 
 abbrev pub examples : List Example
 examples =
-    polygon rectangle
+    table strips
+    ∷ polygon rectangle
     ∷ polygon (ring (at 0 0 ∷ at 0 4 ∷ at 4 4 ∷ at 4 0 ∷ []))
     ∷ polygon (ring (at 0 0 ∷ at 2 0 ∷ at 2 4 ∷ []))
     ∷ polygon (ring (at 0 0 ∷ at 4 0 ∷ at 4 4 ∷ []))
@@ -77,7 +78,8 @@ examples =
 
 abbrev pub answers : List Answer
 answers =
-    carriedBy 4 (pos 32)
+    sound
+    ∷ carriedBy 4 (pos 32)
     ∷ refusal 20 1
     ∷ carriedBy 1 (pos 8)
     ∷ refusal 20 1

@@ -11,7 +11,8 @@ use Rattle.whole.proofs.Ring.{solve}
 use Rattle.whole.proofs.Sums.{bool-iff}
 use Rattle.plane.specs.declared.Corner.{Corner}
 use Rattle.plane.specs.Points.{Point, samePoint, turn}
-use Rattle.plane.specs.Corners.{millimetres, point}
+use Rattle.plane.specs.Corners.{millimetres}
+use Rattle.plane.specs.Keys.{point}
 use Rattle.plane.proofs.Points.{turnₑ}
 
 -- Equal coordinates, equal held numbers.

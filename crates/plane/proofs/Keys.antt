@@ -74,7 +74,7 @@ millimetres-order m n = (
   λ h. ltb→lt m n (gap-pos (pos m) (pos n) .1 (subst (λ z. pos 0 <ℤ z) (sym (shifted (pos m) (pos n) (pos 10_000_000))) (gap-pos (millimetres m) (millimetres n) .0 h)) .lt),
 )
 
-millimetres-same : (m n : ℕ) → millimetres m ≡ millimetres n → m ≡ n
+pub millimetres-same : (m n : ℕ) → millimetres m ≡ millimetres n → m ≡ n
 millimetres-same m n e = cc (sym (again m) ∙ ap (λ z. z +ℤ pos 10_000_000) e ∙ again n)
   where
     again : (k : ℕ) → millimetres k +ℤ pos 10_000_000 ≡ pos k

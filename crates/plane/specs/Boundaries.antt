@@ -2,7 +2,7 @@
 use mathlib.Core.Path.{_≡_}
 use mathlib.Core.Bool.{Bool}
 use mathlib.Core.List.{List, _++_, flatMap}
-use lib.IntN.{ℤ, pos}
+use lib.IntN.{ℤ}
 use Rattle.whole.specs.Numbers.{eqZ}
 use Rattle.whole.specs.Sums.{every, net}
 use Rattle.plane.specs.Points.{Edge, Triangle, flip, sides, sameEdge}
@@ -14,10 +14,6 @@ boundary l e = net sameEdge flip e l
 -- Two lists of ordered pairs have the same boundary: equal at every ordered pair.
 abbrev pub SameBoundary : List Edge → List Edge → Type 0
 SameBoundary l m = (e : Edge) → boundary l e ≡ boundary m e
-
--- A list of ordered pairs has no boundary: zero at every ordered pair.
-abbrev pub NoBoundary : List Edge → Type 0
-NoBoundary l = (e : Edge) → boundary l e ≡ pos 0
 
 -- The test for the same boundary looks at the ordered pairs that occur in the two lists; at every other pair both boundaries are 0 or follow from these.
 unfoldable pub agree : List Edge → List Edge → Bool

@@ -1,9 +1,22 @@
--- Corners as one number each, so that the order of the numbers is the order of the corners by x, then by y.
+-- Corners as the code holds them, and as one number each, so that the order of the numbers is the order of the corners by x, then by y.
 use mathlib.Core.List.{List, [], _∷_, map}
-use Prim.Native.Nat.{ℕ, _+_, _*_, _/_, _%_, _^_}
+use Prim.Native.Nat.{ℕ, _+_, _*_, _/_, _%_, _^_, _≤_}
 use Rattle.plane.specs.declared.Corner.{Corner}
 use Rattle.plane.specs.Points.{Point, Edge, _⟶_}
-use Rattle.plane.specs.Corners.{point, InRange}
+use Rattle.plane.specs.Corners.{millimetres}
+
+-- The point that a held corner stands for.
+abbrev pub point : Corner → Point
+point c = record { x = millimetres (c .x); y = millimetres (c .y) }
+
+-- The held number of a coordinate from -10,000,000 to 10,000,000.
+abbrev pub Held : ℕ → Type 0
+Held n = n ≤ 20_000_000
+
+-- A corner with such coordinates.
+pub record InRange (c : Corner) : Type 0 where
+  pub x : Held (c .x)
+  pub y : Held (c .y)
 
 -- A corner's number: its first coordinate, as it is held, times 2^32, and its second.
 abbrev pub keyOf : Corner → ℕ

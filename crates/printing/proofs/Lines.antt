@@ -1,17 +1,19 @@
 -- Lines put one behind another: the next polygon's line behind those before it. Assumes nothing.
-use mathlib.Core.Path.{_≡_, sym, ap, _∙_}
+use mathlib.Core.Path.{_≡_, sym, ap, subst, _∙_}
 use mathlib.Core.List.{List, map, _++_, append-nil, append-assoc}
-use Prim.Native.Nat.{ℕ, zero, suc, _+_}
+use Prim.Native.Nat.{ℕ, zero, suc, _+_, _≤_}
 use native.Mathlib.Omega.{arith}
 use lib.IntN.{ℤ, pos}
+use lib.ListN.{length}
 use Rattle.regions.specs.Regions.{from}
 use Rattle.text.specs.Text.{lineOf}
-use Rattle.text.proofs.Texts.{and-then}
+use Rattle.text.specs.Putting.{Put}
+use Rattle.text.proofs.Texts.{put-behind}
 use Rattle.printing.specs.Lines.{numbered}
 
--- What is put behind what stands, each told in other words.
-pub behind : {p q r v w : List ℕ} → p ≡ q → v ≡ w → r ≡ p ++ v → r ≡ q ++ w
-behind e f g = g ∙ (λ i. e i ++ f i)
+-- What is put behind what was put, told in other words.
+pub behind : {n r k : ℕ} {a b w before between after : List ℕ} → n ≤ length before → Put n a before r between → b ≡ w → Put r b between k after → Put n (a ++ w) before k after
+behind {r = r} {k = k} {between = between} {after = after} fits p e q = put-behind fits p (subst (λ l. Put r l between k after) e q)
 
 module _ (word : List ℕ) (area : ℕ → ℤ) where
   -- The lines of n polygons, from number k on.
@@ -35,6 +37,7 @@ module _ (word : List ℕ) (area : ℕ → ℤ) where
       let f : 1 + n ≡ n + 1 = omega arith in
       ap (lines 1) e ∙ one-more 1 n ∙ ap (λ m. lines 1 n ++ line m) f
 
-  -- The next line, put behind the lines that stand.
-  pub line-behind : {p r : List ℕ} {b : ℤ} (q : List ℕ) (n : ℕ) → p ≡ q ++ lines 1 n → b ≡ area (n + 1) → r ≡ p ++ lineOf word (pos (n + 1)) b → r ≡ q ++ lines 1 (n + 1)
-  line-behind {p} q n e f g = g ∙ ap (λ b. p ++ lineOf word (pos (n + 1)) b) f ∙ and-then q (lines 1 n) (line (n + 1)) e ∙ ap (λ l. q ++ l) (sym (next-line n))
+  -- The next line, put behind the lines that were put.
+  pub line-behind : {at r k : ℕ} {before between after : List ℕ} {b : ℤ} (n : ℕ) → at ≤ length before → Put at (lines 1 n) before r between → b ≡ area (n + 1)
+      → Put r (lineOf word (pos (n + 1)) b) between k after → Put at (lines 1 (n + 1)) before k after
+  line-behind {at} {k = k} {before = before} {after = after} n fits p e q = subst (λ l. Put at l before k after) (sym (next-line n)) (behind fits p (ap (lineOf word (pos (n + 1))) e) q)

@@ -1,8 +1,8 @@
 // The lines of the listing by the figures of the sheet, put together in lent text.
-ghost use mathlib.Core.Path.{_≡_};
-ghost use mathlib.Core.List.{map, _++_};
+ghost use mathlib.Core.List.{map};
 ghost use Prim.Native.Nat.{_+_, _*_, _≤_};
-ghost use lib.ListN.{length, take};
+ghost use lib.ListN.{length};
+ghost use Rattle.text.specs.Putting.{Put};
 ghost use Rattle.regions.specs.Regions.{from};
 ghost use Rattle.printing.specs.Lines.{numbered};
 ghost use Rattle.printing.specs.Printing.{Figures, areaBy, headBy, afterBy, linesBy};
@@ -21,7 +21,7 @@ fn put_polygons(
 ) -> usize
     requires { ⌜ Figures (now sets) (now owners) (now areas) × (polygons ≤ 64) × (length (now word) ≤ 7) × (at + 50 * polygons ≤ length (now text)) ⌝ }
     ensures { λ r. ⌜ (r ≤ at + 50 * polygons)
-        × (take r (now (text .exit)) ≡ take at (now (text .entry)) ++ numbered (now (word .entry)) 1 (map (areaBy after (now (sets .entry)) (now (owners .entry)) (now (areas .entry))) (from 1 polygons))) ⌝ }
+        × Put at (numbered (now (word .entry)) 1 (map (areaBy after (now (sets .entry)) (now (owners .entry)) (now (areas .entry))) (from 1 polygons))) (now (text .entry)) r (now (text .exit)) ⌝ }
 {
     let mut here = at;
     let mut k: u32 = 0;
@@ -41,7 +41,7 @@ fn put_polygons(
 // The lines up to the verdict.
 fn put_head(text: &mut [u8], polygons: u32, sets: &[u64], owners: &[usize], areas: &[u64]) -> usize
     requires { ⌜ Figures (now sets) (now owners) (now areas) × (polygons ≤ 64) × (3400 ≤ length (now text)) ⌝ }
-    ensures { λ r. ⌜ (r ≤ 3400) × (take r (now (text .exit)) ≡ headBy polygons (now (sets .entry)) (now (owners .entry)) (now (areas .entry))) ⌝ }
+    ensures { λ r. ⌜ (r ≤ 3400) × Put 0 (headBy polygons (now (sets .entry)) (now (owners .entry)) (now (areas .entry))) (now (text .entry)) r (now (text .exit)) ⌝ }
 {
     let n = areas.len();
     let first = text::put_line(text, 0, b"sheet", n as u64, polygons as u64);
@@ -82,7 +82,7 @@ fn put_after(
     areas: &[u64],
 ) -> usize
     requires { ⌜ Figures (now sets) (now owners) (now areas) × (polygons ≤ 64) × (at + 3200 ≤ length (now text)) ⌝ }
-    ensures { λ r. ⌜ (r ≤ at + 3200) × (take r (now (text .exit)) ≡ take at (now (text .entry)) ++ afterBy done polygons (now (sets .entry)) (now (owners .entry)) (now (areas .entry))) ⌝ }
+    ensures { λ r. ⌜ (r ≤ at + 3200) × Put at (afterBy done polygons (now (sets .entry)) (now (owners .entry)) (now (areas .entry))) (now (text .entry)) r (now (text .exit)) ⌝ }
 {
     if done {
         return put_polygons(text, at, b"after", true, polygons, sets, owners, areas);
@@ -100,7 +100,7 @@ pub fn put_lines(
     areas: &[u64],
 ) -> usize
     requires { ⌜ Figures (now sets) (now owners) (now areas) × (polygons ≤ 64) × (6600 ≤ length (now text)) ⌝ }
-    ensures { λ r. ⌜ (r ≤ 6600) × (take r (now (text .exit)) ≡ linesBy done polygons (now (sets .entry)) (now (owners .entry)) (now (areas .entry))) ⌝ }
+    ensures { λ r. ⌜ (r ≤ 6600) × Put 0 (linesBy done polygons (now (sets .entry)) (now (owners .entry)) (now (areas .entry))) (now (text .entry)) r (now (text .exit)) ⌝ }
 {
     let at = put_head(text, polygons, sets, owners, areas);
     put_after(text, at, done, polygons, sets, owners, areas)

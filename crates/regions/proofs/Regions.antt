@@ -12,7 +12,7 @@ use lib.Dec.{eqb, ltb}
 use lib.ListN.{length, getD, replicate, set, length-map, length-set, length-replicate, List·getD-eq-default, getD-replicate}
 use lib.Seq.{getD-set-same, getD-set-other, ext-getD}
 use Rattle.regions.specs.Spreading.{Paired}
-use Rattle.regions.specs.Regions.{from, gap, inGroup, touches, joined, rounds, region}
+use Rattle.regions.specs.Regions.{from, gap, inGroup, touches, joined, rounds, region, Joined, step, self}
 
 -- ---- the numbers from i on
 pub length-from : (i n : ℕ) → length (from i n) ≡ n
@@ -96,12 +96,6 @@ same-test : (b c : Bool) → (b ≡ true → c ≡ true) → (c ≡ true → b �
 same-test true c f g = sym (f refl)
 same-test false true f g = g refl
 same-test false false f g = refl
-
--- ---- triangles joined
--- A triangle is joined with t through shared sides of gap triangles: t itself, and each gap across a side of one that is.
-pub data Joined (opposite numbers : List ℕ) (t : ℕ) : ℕ → Type 0 where
-  self : Joined opposite numbers t t
-  step : {u : ℕ} (k o : ℕ) → Joined opposite numbers t (k / 3) → getD opposite k 0 ≡ suc o → gap opposite numbers (o / 3) ≡ true → o / 3 ≡ u → Joined opposite numbers t u
 
 module _ (opposite numbers : List ℕ) where
   pub joined-trans : {t u v : ℕ} → Joined opposite numbers t u → Joined opposite numbers u v → Joined opposite numbers t v

@@ -1,4 +1,5 @@
 -- A gap region: a largest group of gap triangles joined through shared sides.
+use mathlib.Core.Path.{_≡_}
 use mathlib.Core.Bool.{Bool, true, false, _&&_, _||_}
 use mathlib.Core.List.{List, [], _∷_, map}
 use Prim.Native.Nat.{ℕ, zero, suc, _+_, _*_, _/_}
@@ -34,3 +35,8 @@ module _ (opposite numbers : List ℕ) where
   -- The gap region of a triangle: what joins it in as many rounds as there are triangles.
   abbrev pub region : ℕ → List Bool
   region t = rounds (length numbers) (set (replicate (length numbers) false) t true)
+
+-- A triangle is joined with t through shared sides of gap triangles: t itself, and each gap across a side of one that is.
+pub data Joined (opposite numbers : List ℕ) (t : ℕ) : ℕ → Type 0 where
+  self : Joined opposite numbers t t
+  step : {u : ℕ} (k o : ℕ) → Joined opposite numbers t (k / 3) → getD opposite k 0 ≡ suc o → gap opposite numbers (o / 3) ≡ true → o / 3 ≡ u → Joined opposite numbers t u

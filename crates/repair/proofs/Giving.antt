@@ -2,9 +2,9 @@
 -- have t, and what is met with t is closed again, so that the triangles met since are the region of t. Assumes nothing.
 use mathlib.Core.Path.{_≡_, refl, sym, _∙_, ap, subst}
 use mathlib.Core.Logic.{_⊎_, inl, inr}
-use mathlib.Core.Bool.{Bool, true, false, cond}
+use mathlib.Core.Bool.{Bool, true, false, cond, true≢false, false≢true}
 use mathlib.Core.List.{List, _∷_, _++_, map}
-use mathlib.Core.Option.{none, some}
+use mathlib.Core.Option.{Option, none, some}
 use Prim.Native.Nat.{ℕ, zero, suc, _+_, _*_, _/_, _≤_, _<_}
 use native.Mathlib.Omega.{arith}
 use native.Mathlib.Decide.{ℕ-discrete, decLe}
@@ -13,11 +13,12 @@ use lib.Dec.{eqb}
 use lib.ListN.{length, getD, take, replicate, length-replicate, length-append}
 use lib.Seq.{ext-getD, take-at, length-take-le}
 use Rattle.whole.specs.Sums.{every}
-use Rattle.regions.specs.Regions.{from, gap, region}
+use Rattle.regions.specs.Regions.{from, gap, region, Joined, self, step}
 use Rattle.regions.specs.Spreading.{Paired, marked, Meeting, Grown, Fresh, Spread}
-use Rattle.regions.proofs.Regions.{length-map-from, map-from-at, Joined, self, step, joined-sym, region-has, region-same, not-both}
+use Rattle.regions.proofs.Regions.{length-map-from, map-from-at, joined-sym, region-has, region-same, not-both}
 use Rattle.regions.proofs.Spreading.{in-table, in-region}
 use Rattle.repair.specs.Repair.{settled, greater, beyond, largest, ownerOf, repaired}
+use Rattle.repair.specs.Giving.{RepairedTo}
 use Rattle.repair.specs.Giving.{Best, Filled, State, Further}
 use Rattle.repair.proofs.Largest.{greater-left, greater-right, greater-one, largest-above, largest-found}
 use Rattle.repair.proofs.OneOwner.{length-settled, every-zero, every-not, answer, repaired-is}
@@ -277,10 +278,24 @@ unmarked-front (suc n) (suc m) h = ap (λ l. false ∷ l) (unmarked-front n m (o
 
 -- Repair has no answer where all settled numbers are 0, and else the owners of all triangles.
 module _ (opposite sets : List ℕ) {numbers : List ℕ} (s : numbers ≡ settled sets) where
-  pub repaired-none : every (eqb 0) numbers ≡ true → none ≡ repaired opposite sets
-  repaired-none e = sym (repaired-is opposite sets ∙ ap (answer opposite sets) (ap (every (eqb 0)) (sym s) ∙ e))
+  -- Repair that can't be done leaves the lent list; repair that is done leaves the owner numbers.
+  pub repaired-none : {lent : List ℕ} → every (eqb 0) numbers ≡ true → RepairedTo (repaired opposite sets) lent false lent
+  repaired-none {lent} e =
+      subst (λ o. RepairedTo o lent false lent) (sym (repaired-is opposite sets ∙ ap (answer opposite sets) (ap (every (eqb 0)) (sym s) ∙ e)))
+      (record { done = refl; left = refl })
 
-  pub repaired-all : every (eqb 0) numbers ≡ false → {owners : List ℕ} → owners ≡ map (ownerOf opposite numbers) (from 0 (length numbers)) → some owners ≡ repaired opposite sets
-  repaired-all e o =
-      ap some (o ∙ ap (λ l. map (ownerOf opposite l) (from 0 (length l))) s ∙ ap (λ n. map (ownerOf opposite (settled sets)) (from 0 n)) (length-settled sets))
-      ∙ sym (repaired-is opposite sets ∙ ap (answer opposite sets) (ap (every (eqb 0)) (sym s) ∙ e))
+  pub repaired-all : {lent owners : List ℕ} → every (eqb 0) numbers ≡ false → owners ≡ map (ownerOf opposite numbers) (from 0 (length numbers)) → RepairedTo (repaired opposite sets) lent true owners
+  repaired-all {lent} {owners} e o =
+      subst (λ o. RepairedTo o lent true owners)
+      (ap some (o ∙ ap (λ l. map (ownerOf opposite l) (from 0 (length l))) s ∙ ap (λ n. map (ownerOf opposite (settled sets)) (from 0 n)) (length-settled sets))
+      ∙ sym (repaired-is opposite sets ∙ ap (answer opposite sets) (ap (every (eqb 0)) (sym s) ∙ e)))
+      (record { done = refl; left = refl })
+
+-- ---- what repair answered tells what it comes to
+pub answered-true : (owners : Option (List ℕ)) {before after : List ℕ} {r : Bool} → RepairedTo owners before r after → r ≡ true → owners ≡ some after
+answered-true none p e = absurd (false≢true (sym (p .done) ∙ e))
+answered-true (some l) p e = ap some (sym (p .left))
+
+pub answered-false : (owners : Option (List ℕ)) {before after : List ℕ} {r : Bool} → RepairedTo owners before r after → r ≡ false → owners ≡ none
+answered-false none p e = refl
+answered-false (some l) p e = absurd (true≢false (sym (p .done) ∙ e))

@@ -14,7 +14,8 @@ use lib.ListN.{length, getD, List·getD-eq-default}
 use Rattle.whole.specs.Sums.{All, Among, every}
 use Rattle.whole.proofs.Sums.{all-from}
 use Rattle.repair.specs.Repair.{settled, repaired}
-use Rattle.repair.proofs.OneOwner.{ownersOf, ownersAt, settled-at, unowned, gap-is, every-zero, answer, repaired-is, first-among, OneOwner}
+use Rattle.repair.proofs.OneOwner.{settled-at, unowned, gap-is, every-zero, answer, repaired-is, first-among}
+use Rattle.repair.specs.OneOwner.{ownersOf, ownersAt, OneOwner}
 
 filled : (l : List ℕ) → (l ≡ [] → ⊥) → 1 ≤ length l
 filled [] f = absurd (f refl)

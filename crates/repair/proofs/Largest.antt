@@ -3,16 +3,17 @@ use mathlib.Core.Path.{_≡_, refl, sym, _∙_, ap, subst}
 use mathlib.Core.Logic.{_⊎_, inl, inr}
 use mathlib.Core.Bool.{Bool, true, false, cond}
 use mathlib.Core.List.{List, [], _∷_, map}
-use Prim.Native.Nat.{ℕ, zero, suc, _/_, _≤_, _<_}
+use Prim.Native.Nat.{ℕ, zero, suc, _+_, _/_, _≤_, _<_}
 use native.Mathlib.Omega.{arith}
+use native.Mathlib.Decide.{decLe}
 use borrow.Author.Tests.{leb-true, leb-false}
 use lib.Dec.{leb}
 use lib.ListN.{length, getD}
+use Rattle.whole.specs.Sums.{passing}
 use Rattle.regions.specs.Regions.{from}
-use Rattle.regions.proofs.Regions.{length-map-from, map-from-at}
 use Rattle.repair.specs.Repair.{greater, greatest, beyond, largest}
 
--- ---- the greatest of a list
+-- ---- the greater of two numbers
 pub greater-left : (m n : ℕ) → m ≤ greater m n
 greater-left m n = go (leb m n) refl
   where
@@ -34,52 +35,54 @@ greater-one m n = go (leb m n)
     go true = inr refl
     go false = inl refl
 
--- No number of the list is above its greatest,
-pub greatest-above : (l : List ℕ) (i : ℕ) → getD l i 0 ≤ greatest l
-greatest-above [] i = omega arith
-greatest-above (n ∷ l) zero = greater-left n (greatest l)
-greatest-above (n ∷ l) (suc i) = omega (arith, greatest-above l i, greater-right n (greatest l))
+-- ---- the greatest of what those of the numbers from i on that pass a test stand for
+module _ (test : ℕ → Bool) (f : ℕ → ℕ) where
+  abbrev among : ℕ → ℕ → ℕ
+  among i n = greatest (map f (passing test (from i n)))
 
--- which stands in it, or is 0.
-pub greatest-found : (l : List ℕ) → (greatest l ≡ 0) ⊎ (i : ℕ) × (i < length l) × (getD l i 0 ≡ greatest l)
-greatest-found [] = inl refl
-greatest-found (n ∷ l) = go (greater-one n (greatest l)) (greatest-found l)
-  where
-    go : (greater n (greatest l) ≡ n) ⊎ (greater n (greatest l) ≡ greatest l) → (greatest l ≡ 0) ⊎ (i : ℕ) × (i < length l) × (getD l i 0 ≡ greatest l)
-        → (greater n (greatest l) ≡ 0) ⊎ (i : ℕ) × (i < length (n ∷ l)) × (getD (n ∷ l) i 0 ≡ greater n (greatest l))
-    go (inl e) r = inr (0, omega arith, sym e)
-    go (inr e) (inl z) = inl (e ∙ z)
-    go (inr e) (inr r) = inr (suc (r .0), omega (arith, r .1), r .2 ∙ sym e)
+  -- None of them is above it,
+  above-from : (i n k : ℕ) → i ≤ k → k < i + n → test k ≡ true → f k ≤ among i n
+  above-from i zero k l h e = absurd (omega arith)
+  above-from i (suc n) k l h e = elim (decLe (suc i) k) [
+    | yes later ↦ go (test i) (above-from (suc i) n k (omega arith) (omega arith) e)
+    | no here ↦ let same : k ≡ i = omega arith in
+        subst (λ j. f j ≤ among i (suc n)) (sym same)
+        (subst (λ b. f i ≤ greatest (map f (cond b (i ∷ passing test (from (suc i) n)) (passing test (from (suc i) n))))) (sym (ap test (sym same) ∙ e)) (greater-left (f i) (among (suc i) n)))
+  ]
+    where
+      go : (b : Bool) → f k ≤ among (suc i) n → f k ≤ greatest (map f (cond b (i ∷ passing test (from (suc i) n)) (passing test (from (suc i) n))))
+      go true r = omega (arith, r, greater-right (f i) (among (suc i) n))
+      go false r = r
+
+  -- and it is one of them, or 0.
+  abbrev FoundFrom : ℕ → ℕ → ℕ → Type 0
+  FoundFrom i n m = (m ≡ 0) ⊎ (k : ℕ) × (i ≤ k) × (k < i + n) × (test k ≡ true) × (f k ≡ m)
+
+  further : (i n m : ℕ) → FoundFrom (suc i) n m → FoundFrom i (suc n) m
+  further i n m (inl z) = inl z
+  further i n m (inr (k, l, h, e, q)) = inr (k, omega arith, omega arith, e, q)
+
+  found-from : (i n : ℕ) → FoundFrom i n (among i n)
+  found-from i zero = inl refl
+  found-from i (suc n) = go (test i) refl (found-from (suc i) n)
+    where
+      go : (b : Bool) → test i ≡ b → FoundFrom (suc i) n (among (suc i) n) → FoundFrom i (suc n) (greatest (map f (cond b (i ∷ passing test (from (suc i) n)) (passing test (from (suc i) n)))))
+      go true e r = elim (greater-one (f i) (among (suc i) n)) [
+        | inl q ↦ inr (i, omega arith, omega arith, e, sym q)
+        | inr q ↦ subst (FoundFrom i (suc n)) (sym q) (further i n (among (suc i) n) r)
+      ]
+      go false e r = further i n (among (suc i) n) r
 
 -- ---- the largest number across the sides of a group
 module _ (opposite numbers : List ℕ) (group : List Bool) where
-  -- What a side of the table counts for: the number across it, 0 if it is no side of the group.
-  abbrev counted : ℕ → ℕ
-  counted k = cond (getD group (k / 3) false) (beyond opposite numbers (getD opposite k 0)) 0
-
   -- No number across a side of the group is above the largest,
   pub largest-above : (k : ℕ) → k < length opposite → getD group (k / 3) false ≡ true → beyond opposite numbers (getD opposite k 0) ≤ largest opposite numbers group
-  largest-above k h g =
-      let at = map-from-at counted (length opposite) k 0 h in
-      let in-group : counted k ≡ beyond opposite numbers (getD opposite k 0) = ap (λ b. cond b (beyond opposite numbers (getD opposite k 0)) 0) g in
-      subst (λ m. m ≤ largest opposite numbers group) (at ∙ in-group) (greatest-above (map counted (from 0 (length opposite))) k)
+  largest-above k h = above-from (λ j. getD group (j / 3) false) (λ j. beyond opposite numbers (getD opposite j 0)) 0 (length opposite) k (omega arith) (omega arith)
 
   -- which stands across one, or is 0.
   pub largest-found : (largest opposite numbers group ≡ 0)
       ⊎ (k : ℕ) × (k < length opposite) × (getD group (k / 3) false ≡ true) × (beyond opposite numbers (getD opposite k 0) ≡ largest opposite numbers group)
-  largest-found = go (greatest-found (map counted (from 0 (length opposite))))
-    where
-      at : (k : ℕ) → k < length opposite → (b : Bool) → getD group (k / 3) false ≡ b → cond b (beyond opposite numbers (getD opposite k 0)) 0 ≡ largest opposite numbers group
-          → (largest opposite numbers group ≡ 0)
-          ⊎ (k : ℕ) × (k < length opposite) × (getD group (k / 3) false ≡ true) × (beyond opposite numbers (getD opposite k 0) ≡ largest opposite numbers group)
-      at k h true g e = inr (k, h, g, e)
-      at k h false g e = inl (sym e)
-
-      go : (largest opposite numbers group ≡ 0)
-          ⊎ (k : ℕ) × (k < length (map counted (from 0 (length opposite)))) × (getD (map counted (from 0 (length opposite))) k 0 ≡ largest opposite numbers group)
-          → (largest opposite numbers group ≡ 0)
-          ⊎ (k : ℕ) × (k < length opposite) × (getD group (k / 3) false ≡ true) × (beyond opposite numbers (getD opposite k 0) ≡ largest opposite numbers group)
-      go (inl z) = inl z
-      go (inr r) =
-          let h : r .0 < length opposite = subst (λ n. r .0 < n) (length-map-from counted 0 (length opposite)) (r .1) in
-          at (r .0) h (getD group (r .0 / 3) false) refl (sym (map-from-at counted (length opposite) (r .0) 0 h) ∙ r .2)
+  largest-found = elim (found-from (λ j. getD group (j / 3) false) (λ j. beyond opposite numbers (getD opposite j 0)) 0 (length opposite)) [
+    | inl z ↦ inl z
+    | inr (k, l, h, e, q) ↦ inr (k, omega arith, e, q)
+  ]

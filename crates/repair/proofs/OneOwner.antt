@@ -20,16 +20,18 @@ use Rattle.whole.proofs.Tests.{by-equal}
 use Rattle.plane.specs.Points.{flip, sameEdge}
 use Rattle.plane.specs.Boundaries.{sidesOf}
 use Rattle.table.specs.Table.{RuleA, RuleB, RuleC}
-use Rattle.table.specs.Sets.{SetOf, chosen, Closed}
-use Rattle.table.specs.Sides.{trianglesOf, opposites}
+use Rattle.table.specs.Sets.{SetOf, chosen}
+use Rattle.table.specs.Sides.{Closed, trianglesOf}
+use Rattle.table.specs.Opposites.{opposites}
 use Rattle.table.proofs.Shares.{length-triangles, length-opposites, among-side, opposite-some, opposite-is, fewer-sides, side-count}
 use Rattle.table.proofs.Connected.{connected}
 use Rattle.marks.specs.Marks.{ownersIn, standingBy, standingOf}
 use Rattle.marks.proofs.Bits.{owners-above, owners-within, owners-ascending}
-use Rattle.regions.specs.Regions.{from, gap, region}
+use Rattle.regions.specs.Regions.{from, gap, region, Joined}
 use Rattle.regions.specs.Spreading.{Paired}
-use Rattle.regions.proofs.Regions.{map-from-at, length-map-from, Joined, joined-gap, joined-within, region-own, region-closed, region-has, region-same, region-length, not-both}
+use Rattle.regions.proofs.Regions.{map-from-at, length-map-from, joined-gap, joined-within, region-own, region-closed, region-has, region-same, region-length, not-both}
 use Rattle.repair.specs.Repair.{settledBy, settled, beyond, largest, ownerOf, repaired}
+use Rattle.repair.specs.OneOwner.{ownersOf, ownersAt, OneOwner}
 use Rattle.repair.proofs.Largest.{largest-above, largest-found}
 
 -- A side that has something across it is one of the list.
@@ -81,14 +83,6 @@ module _ (keys : List ℕ) (n : ℕ) (whole : length keys ≡ 3 * n) (once : Rul
       go : All (λ b. b ≡ true) s ⊎ All (λ b. b ≡ false) s → getD s u false ≡ true
       go (inl a) = all-at (λ b. b ≡ true) false s u a (omega arith)
       go (inr a) = absurd (not-both (getD s t false) (all-at (λ b. b ≡ false) false s t a (omega arith)) m)
-
--- ---- owners
--- The owners in a set, in ascending order, and those of triangle t.
-unfoldable pub ownersOf : ℕ → List ℕ
-ownersOf set = ownersIn 64 0 set
-
-abbrev pub ownersAt : List ℕ → ℕ → List ℕ
-ownersAt sets t = ownersOf (getD sets t 0)
 
 first-settled : (l : List ℕ) → settledBy (standingBy l) ≡ getD l 0 0
 first-settled [] = refl
@@ -235,28 +229,6 @@ module _ (opposite numbers : List ℕ) (pairs : Paired opposite (length numbers)
       reached : getD (region opposite numbers t) v false ≡ true
       reached = joins (region opposite numbers t) (region-length opposite numbers t) (λ k o m e. region-closed opposite numbers pairs t h (k / 3) k o m refl e (empty k o m e))
           t h (region-own opposite numbers pairs t h) v w
-
--- ---- one owner
--- The owner numbers l, one for each triangle, are the repair of the owner sets. The region of a gap is what is joined with it through
--- shared sides of gaps; the settled number of a triangle is its single or its smallest owner, 0 for a gap.
-pub record OneOwner (opposite sets l : List ℕ) : Type 0 where
-  -- Each triangle of the table has a number,
-  pub each : length l ≡ length sets
-  -- which is a polygon's.
-  pub owned : (t : ℕ) → t < length sets → (1 ≤ getD l t 0) × (getD l t 0 ≤ 64)
-  -- A single owner is kept.
-  pub single : (t k : ℕ) → t < length sets → ownersAt sets t ≡ k ∷ [] → getD l t 0 ≡ k
-  -- An overlap goes to one of its owners, the smallest.
-  pub overlap : (t : ℕ) → t < length sets → 2 ≤ length (ownersAt sets t)
-      → Among eqb (getD l t 0) (ownersAt sets t) × ((k : ℕ) → Among eqb k (ownersAt sets t) → getD l t 0 ≤ k)
-  -- All triangles of a gap's region have the same owner,
-  pub same : (t u : ℕ) → t < length sets → ownersAt sets t ≡ [] → Joined opposite (settled sets) t u → getD l u 0 ≡ getD l t 0
-  -- which is the settled number of a triangle with an owner across one of the region's sides,
-  pub found : (t : ℕ) → t < length sets → ownersAt sets t ≡ []
-      → (k : ℕ) × (o : ℕ) × Joined opposite (settled sets) t (k / 3) × (getD opposite k 0 ≡ suc o) × (ownersAt sets (o / 3) ≡ [] → ⊥) × (getD l t 0 ≡ getD (settled sets) (o / 3) 0)
-  -- and no triangle across the region's sides has a larger one.
-  pub largest-there : (t k o : ℕ) → t < length sets → ownersAt sets t ≡ [] → Joined opposite (settled sets) t (k / 3) → getD opposite k 0 ≡ suc o
-      → getD (settled sets) (o / 3) 0 ≤ getD l t 0
 
 -- ---- the first of an ascending list
 pub first-among : (l : List ℕ) → 1 ≤ length l → Among eqb (getD l 0 0) l

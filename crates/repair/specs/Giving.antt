@@ -1,8 +1,9 @@
--- What owners the gap triangles met are given, region by region.
+-- What owners the gap triangles met are given, region by region, and the lent owner numbers after repair.
 use mathlib.Core.Path.{_≡_}
 use mathlib.Core.Logic.{_⊎_}
 use mathlib.Core.Bool.{Bool, true, false}
 use mathlib.Core.List.{List}
+use mathlib.Core.Option.{Option, none, some}
 use Prim.Native.Nat.{ℕ, _/_, _≤_, _<_}
 use lib.ListN.{length, getD}
 use Rattle.regions.specs.Regions.{region}
@@ -32,3 +33,16 @@ pub record State (opposite numbers : List ℕ) (met : List Bool) (group : List �
 pub record Further (numbers : List ℕ) (met met' : List Bool) (t : ℕ) : Type 0 where
   pub still : (u : ℕ) → getD met u false ≡ true → getD met' u false ≡ true
   pub there : getD numbers t 0 ≡ 0 → getD met' t false ≡ true
+
+-- Repair over a lent list of owner numbers: whether it can be done, and the list afterwards, which is as it was where it can't.
+abbrev pub isDone : Option (List ℕ) → Bool
+isDone none = false
+isDone (some owners) = true
+
+abbrev pub ownersLeft : Option (List ℕ) → List ℕ → List ℕ
+ownersLeft none lent = lent
+ownersLeft (some owners) lent = owners
+
+pub record RepairedTo (owners : Option (List ℕ)) (before : List ℕ) (r : Bool) (after : List ℕ) : Type 0 where
+  pub done : r ≡ isDone owners
+  pub left : after ≡ ownersLeft owners before

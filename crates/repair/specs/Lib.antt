@@ -1,3 +1,4 @@
 -- Repair: overlaps settled, and gap regions given to a neighbour.
 pub mod Repair
 pub mod Giving
+pub mod OneOwner

@@ -1,12 +1,12 @@
 -- Repair: triangles with one owner keep it, an overlap goes to its smallest owner number, and each gap region, a largest group of gap
 -- triangles joined through shared sides, goes to the largest number found across its sides once the overlaps are settled.
-use mathlib.Core.Bool.{Bool, true, false, cond}
+use mathlib.Core.Bool.{Bool, false, cond}
 use mathlib.Core.List.{List, [], _∷_, map}
 use mathlib.Core.Option.{Option, none, some}
 use Prim.Native.Nat.{ℕ, zero, suc, _/_}
 use lib.Dec.{eqb, leb}
 use lib.ListN.{length, getD}
-use Rattle.whole.specs.Sums.{every}
+use Rattle.whole.specs.Sums.{every, passing}
 use Rattle.marks.specs.declared.Standing.{Standing}
 use Rattle.marks.specs.declared.Standing.the-variants.{Gap, Single, Overlap}
 use Rattle.marks.specs.Marks.{standingOf}
@@ -35,9 +35,13 @@ module _ (opposite numbers : List ℕ) where
   beyond zero = 0
   beyond (suc o) = getD numbers (o / 3) 0
 
+  -- The sides of a group of triangles, by number: side k is of triangle k / 3.
+  abbrev pub sidesIn : List Bool → List ℕ
+  sidesIn group = passing (λ k. getD group (k / 3) false) (from 0 (length opposite))
+
   -- The largest number found across the sides of a group.
   abbrev pub largest : List Bool → ℕ
-  largest group = greatest (map (λ k. cond (getD group (k / 3) false) (beyond (getD opposite k 0)) 0) (from 0 (length opposite)))
+  largest group = greatest (map (λ k. beyond (getD opposite k 0)) (sidesIn group))
 
   -- The owner number of a triangle after repair.
   abbrev pub ownerOf : ℕ → ℕ
@@ -46,8 +50,3 @@ module _ (opposite numbers : List ℕ) where
 -- Repair, from the owner sets: one owner number for each triangle; none where no triangle has an owner.
 unfoldable pub repaired : List ℕ → List ℕ → Option (List ℕ)
 repaired opposite sets = cond (every (eqb 0) (settled sets)) none (some (map (ownerOf opposite (settled sets)) (from 0 (length sets))))
-
--- The answer with the lent numbers: the owner numbers, or none.
-abbrev pub repairedAs : Bool → List ℕ → Option (List ℕ)
-repairedAs true owners = some owners
-repairedAs false owners = none

@@ -9,8 +9,8 @@ ghost use Rattle.whole.specs.Sums.{every};
 ghost use Rattle.marks.specs.Marks.{standingOf};
 ghost use Rattle.regions.specs.Regions.{from};
 ghost use Rattle.regions.specs.Spreading.{Paired};
-ghost use Rattle.repair.specs.Repair.{settledBy, settled, greater, beyond, ownerOf, repaired, repairedAs};
-ghost use Rattle.repair.specs.Giving.{Best, Filled, State, Further};
+ghost use Rattle.repair.specs.Repair.{settledBy, settled, greater, beyond, ownerOf, repaired};
+ghost use Rattle.repair.specs.Giving.{RepairedTo, Best, Filled, State, Further};
 
 // The owner number of a triangle once the overlaps are settled; 0 for a gap.
 fn owner_of(set: u64) -> usize
@@ -162,20 +162,20 @@ fn mark_list() -> [bool; 1024]
     [false; 1024]
 }
 
-// Repair: the owner number of each triangle, from the owner sets. False where no triangle has an owner: repair can't be done.
+// Repair: the owner number of each triangle, from the owner sets. False where no triangle has an owner: repair can't be done, and the list is as it was.
 pub fn repair(opposite: &[usize], sets: &[u64], owners: &mut [usize]) -> bool
     requires { ⌜ Paired (now opposite) (length (now sets)) × (length (now owners) ≡ length (now sets)) × (length (now sets) ≤ 1024) ⌝ }
-    ensures { λ r. ⌜ repairedAs r (now (owners .exit)) ≡ repaired (now (opposite .entry)) (now (sets .entry)) ⌝ }
+    ensures { λ r. ⌜ RepairedTo (repaired (now (opposite .entry)) (now (sets .entry))) (now (owners .entry)) r (now (owners .exit)) ⌝ }
 {
     let n = sets.len();
     let mut numbers = number_list();
     let mut met = mark_list();
     let mut group = number_list();
     settle(sets, &mut numbers[..n]);
-    settle(sets, owners);
     if none_owned(&numbers[..n]) {
         return false;
     }
+    settle(sets, owners);
     give_all(
         opposite,
         &numbers[..n],

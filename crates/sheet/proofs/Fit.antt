@@ -17,7 +17,8 @@ use Rattle.kinds.specs.declared.Slot.{Slot}
 use Rattle.kinds.specs.declared.Slot.the-variants.{Sheet, Table, Piece, Part, Member}
 use Rattle.wkb.specs.declared.Step.{Step}
 use Rattle.little.specs.Ordered.{remains, wordAt, doubleAt}
-use Rattle.wkb.specs.Steps.{start, slotOf, complete, kindFault, countFits, popped, withRings, withParts, withMembers, withSheet, fewerParts, opened, geometryAt, ringFits, ringAt, afterPoint, pointAt, endAt, stepAt}
+use Rattle.wkb.specs.Steps.{start, slotOf, complete, kindFault, countFits, popped, withRings, withParts, withSheet, fewerParts, opened, geometryAt, ringFits, ringAt, afterPoint, pointAt, endAt, stepAt}
+use Rattle.wkb.proofs.Steps.{pops, members-opened}
 use Rattle.sheet.specs.Reading.{Taken, Reading, Turn, on, over, held, begin, polygon, opening, noted, judged, taken, turn, run, readingOf, nothing}
 use Rattle.sheet.proofs.Sized.{same, other, is-yes, is-no, sheet, first, table, after, Sized, at-most, one-more, point-sized, ring-sized}
 
@@ -41,24 +42,6 @@ slot-at c =
     let m : 2 ≤ c .member = omega (arith, other (c .member) 0 tt n, other (c .member) 1 tt k) in
     by-cond (At c) (ltb 0 (c .parts)) _ _ (λ p. m) m))
 
--- What stays where one geometry fewer is to come, and no header of a member is.
-record Popped (c d : Cursor) : Type 0 where
-  member : d .member ≡ c .member
-  members : d .members ≡ c .members
-  rings : d .rings ≡ c .rings
-  points : d .points ≡ c .points
-  total : d .total ≡ c .total
-  shut : _≡_ {A = ℕ} (cond (d .header) 1 0) 0
-
-pops : (c : Cursor) → Popped c (popped c)
-unfolding popped
-pops c =
-    by-test (Popped c) (c .header) _ _ (λ t. record { member = refl; members = refl; rings = refl; points = refl; total = refl; shut = refl }) (λ n.
-    let s = is-no {A = ℕ} (c .header) 1 0 n in
-    by-cond (Popped c) (ltb 0 (c .fourth)) _ _ (λ t. record { member = refl; members = refl; rings = refl; points = refl; total = refl; shut = s })
-    (by-cond (Popped c) (ltb 0 (c .third)) _ _ (λ t. record { member = refl; members = refl; rings = refl; points = refl; total = refl; shut = s })
-    (record { member = refl; members = refl; rings = refl; points = refl; total = refl; shut = s })))
-
 -- A member of which nothing is left is complete.
 nothing-left : (c : Cursor) → T (not (c .header)) → c .second + c .third + c .fourth ≡ 0 → c .parts ≡ 0 → c .rings ≡ 0 → c .points ≡ 0 → T (complete c)
 unfolding complete
@@ -78,9 +61,10 @@ polygon-adds c n b = omega (arith, one-more (set (b .numbers) (b .mark) (held (c
 module _ (c : Cursor) (little : Bool) (kind n : ℕ) (p : c .points ≡ 0) (r : c .rings ≡ 0) where
   -- The member's own header adds one number, and a polygon another.
   member-stage : (f : ℕ) → 2 ≤ c .member → 1 ≤ n → Sized c f → Sized (opened Member c little kind n) (f + cond (c .header) 1 0 + cond (eqb kind 3) 1 0)
-  unfolding opened withRings withParts withMembers
+  unfolding opened withRings withParts
   member-stage f m l h =
       let q = pops c in
+      let shut : _≡_ {A = ℕ} (cond (popped c .header) 1 0) 0 = rw (q .header) in
       let o = h .members in
       let w = h .total in
       let x : 2 * f + 2 * cond (c .header) 1 0 + 2 ≤ 12292 + 2 * c .member + 5 * c .total = elim (h .stage) [ sheet a s e ↦ absurd (omega arith) | first a s e k ↦ absurd (omega arith) | table a s e k ↦ absurd (omega arith) | after a e ↦ omega arith ] in
@@ -90,7 +74,10 @@ module _ (c : Cursor) (little : Bool) (kind n : ℕ) (p : c .points ≡ 0) (r : 
       let y = is-no {A = ℕ} (eqb kind 3) 1 0 t in
       by-cond (λ (d : Cursor). Sized d (f + cond (c .header) 1 0 + cond (eqb kind 3) 1 0)) (eqb kind 6) _ _ (λ z.
       record { members = omega arith; total = omega arith; stage = after (omega arith) (omega arith) })
-      (record { members = omega arith; total = omega arith; stage = after (omega arith) (omega arith) }))
+      (members-opened (λ (d : Cursor). Sized d (f + cond (c .header) 1 0 + cond (eqb kind 3) 1 0)) c n (popped c)
+      (record { members = omega arith; total = omega arith; stage = after (omega arith) (omega arith) })
+      (record { members = omega arith; total = omega arith; stage = after (omega arith) (omega arith) })
+      (record { members = omega arith; total = omega arith; stage = after (omega arith) (omega arith) })))
 
   -- Each geometry's header keeps the bound. The table has one header, since it is complete where nothing of it is left.
   opened-sized : (slot : Slot) (b : Taken) → At c slot → T (not (not (eqb (c .member) 0) && complete c)) → T (countFits slot n) → Sized c (length (b .numbers))

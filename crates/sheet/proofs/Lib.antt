@@ -3,6 +3,10 @@ pub mod Run
 pub mod Sane
 pub mod Laid
 pub mod Shown
+pub mod Counts
+pub mod Rows
+pub mod Opened
+pub mod Closed
 pub mod Onward
 pub mod Finish
 pub mod Sized

@@ -1,6 +1,5 @@
 -- Every refusal of reading is one of document 01's: 1 to 6 and 8 with a member of the sheet (0 in its own header), 7 with 0.
 -- The idea: the places that are reached name a member from 0 to 65, and each refusal is made at one of them. Assumes nothing.
-use mathlib.Core.Path.{_≡_, refl}
 use mathlib.Core.Bool.{Bool, true, false, not, cond, _&&_, _||_}
 use mathlib.Core.List.{List}
 use Prim.Native.Nat.{ℕ, zero, suc, _+_, _≤_}
@@ -18,7 +17,8 @@ use Rattle.kinds.specs.declared.Slot.the-variants.{Sheet, Table, Piece, Part, M
 use Rattle.wkb.specs.declared.Step.{Step}
 use Rattle.wkb.specs.declared.Step.the-variants.{Geometry, Ring, Point, End, Refused}
 use Rattle.little.specs.Ordered.{remains, wordAt}
-use Rattle.wkb.specs.Steps.{start, slotOf, complete, renewed, crowded, deep, kindFault, countFits, popped, withRings, withParts, withMembers, withSheet, fewerParts, opened, geometryAt, ringFits, withPoints, ringAt, afterPoint, pointAt, endAt, stepAt}
+use Rattle.wkb.specs.Steps.{start, slotOf, complete, renewed, crowded, deep, kindFault, countFits, popped, withRings, withParts, withSheet, fewerParts, opened, geometryAt, ringFits, withPoints, ringAt, afterPoint, pointAt, endAt, stepAt}
+use Rattle.wkb.proofs.Steps.{pops, members-opened}
 use Rattle.sheet.specs.Reading.{Taken, Reading, Turn, on, over, nothing, noted, judged, taken, turn, run, readingOf}
 
 -- The refusals that document 01 has for reading, with their items; code 0 is success.
@@ -63,23 +63,19 @@ fault-named slot c kind = go slot
     go Member = by-cond P (eqb kind 3) (crowded c) _ (λ t. full) (by-cond P (eqb kind 6) 0 _ (λ t. tt) (by-cond P (eqb kind 7) (deep c) 3 (λ t. by-cond P (eqb (c .fourth) 0) 0 8 (λ t. tt) tt) tt))
 
 -- ---- the places that are reached
-popped-member : (c : Cursor) → popped c .member ≡ c .member
-unfolding popped
-popped-member c = by-cond (λ (d : Cursor). d .member ≡ c .member) (c .header) _ _ (λ t. refl) (by-cond (λ (d : Cursor). d .member ≡ c .member) (ltb 0 (c .fourth)) _ _ (λ t. refl) (by-cond (λ (d : Cursor). d .member ≡ c .member) (ltb 0 (c .third)) _ _ (λ t. refl) refl))
-
 renewed-member : (c : Cursor) → c .member ≤ 65 → renewed c .member ≤ 65
 unfolding renewed
 renewed-member c h = by-cond (λ (d : Cursor). d .member ≤ 65) (complete c && ltb 0 (c .members)) _ c (λ t. by-cond (λ m. m ≤ 65) (ltb (c .member) 65) _ _ (λ t. omega (arith, ltb→lt (c .member) 65 t)) h) h
 
 opened-member : (slot : Slot) (c : Cursor) (little : Bool) (kind n : ℕ) → c .member ≤ 65 → opened slot c little kind n .member ≤ 65
-unfolding opened withRings withParts withMembers withSheet fewerParts
+unfolding opened withRings withParts withSheet fewerParts
 opened-member Sheet c little kind n h = omega arith
-opened-member Table c little kind n h = omega (arith, popped-member c)
+opened-member Table c little kind n h = omega (arith, pops c .member)
 opened-member Piece c little kind n h = h
 opened-member Part c little kind n h = h
 opened-member Member c little kind n h =
-    let p : popped c .member ≤ 65 = omega (arith, popped-member c) in
-    by-cond (λ (d : Cursor). d .member ≤ 65) (eqb kind 3) _ _ (λ t. p) (by-cond (λ (d : Cursor). d .member ≤ 65) (eqb kind 6) _ _ (λ t. p) p)
+    let p : popped c .member ≤ 65 = omega (arith, pops c .member) in
+    by-cond (λ (d : Cursor). d .member ≤ 65) (eqb kind 3) _ _ (λ t. p) (by-cond (λ (d : Cursor). d .member ≤ 65) (eqb kind 6) _ _ (λ t. p) (members-opened (λ (d : Cursor). d .member ≤ 65) c n (popped c) p p p))
 
 geometry-fine : (s : List ℕ) (c : Cursor) → c .member ≤ 65 → Fine (geometryAt s c)
 unfolding geometryAt

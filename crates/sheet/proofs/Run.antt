@@ -12,14 +12,16 @@ use Rattle.coordinate.specs.Coordinate.{coordinateOf}
 use Rattle.coordinate.specs.declared.Coordinate.{Coordinate}
 use Rattle.coordinate.specs.declared.Coordinate.the-variants.{Whole, Not}
 use Rattle.wkb.specs.declared.Cursor.{Cursor}
+use Rattle.wkb.specs.Places.{moved, pointsToCome}
 use Rattle.kinds.specs.declared.Slot.{Slot}
 use Rattle.kinds.specs.declared.Slot.the-variants.{Sheet, Table, Piece, Part, Member}
 use Rattle.wkb.specs.declared.Step.{Step}
 use Rattle.wkb.specs.declared.Step.the-variants.{Geometry, Ring, Point, End, Refused}
 use Rattle.little.specs.Ordered.{remains, wordAt}
-use Rattle.wkb.specs.Steps.{start, slotOf, complete, renewed, kindFault, countFits, withRings, withParts, withMembers, withSheet, fewerParts, opened, geometryAt, ringFits, withPoints, ringAt, afterPoint, pointAt, endAt, stepAt}
-use Rattle.wkb.proofs.Steps.{popped-at}
-use Rattle.sheet.specs.Reading.{Taken, Reading, Turn, on, over, noted, judged, taken, turn, run, reading, readingOf, nothing}
+use Rattle.wkb.specs.Steps.{start, slotOf, complete, renewed, kindFault, countFits, popped, withRings, withParts, withSheet, fewerParts, opened, geometryAt, ringFits, withPoints, ringAt, afterPoint, pointAt, endAt, stepAt}
+use Rattle.wkb.proofs.Steps.{pops, members-opened}
+use Rattle.sheet.specs.Reading.{Taken, Reading, Turn, on, over, noted, judged, taken, turn, run, readingOf, nothing}
+use Rattle.sheet.specs.Going.{reading}
 
 -- ---- a step goes forward, within the bytes
 -- The next place is a field or more ahead, and within the bytes.
@@ -38,14 +40,15 @@ unfolding renewed
 renewed-at c = by-cond (λ (d : Cursor). d .at ≡ c .at) (complete c && ltb 0 (c .members)) _ c (λ t. refl) refl
 
 opened-at : (slot : Slot) (c : Cursor) (little : Bool) (kind n : ℕ) → opened slot c little kind n .at ≡ c .at + 9
-unfolding opened withRings withParts withMembers withSheet fewerParts
+unfolding opened withRings withParts withSheet fewerParts
 opened-at Sheet c little kind n = refl
-opened-at Table c little kind n = ap (λ k. k + 9) (popped-at c)
+opened-at Table c little kind n = ap (λ k. k + 9) (pops c .at)
 opened-at Piece c little kind n = refl
 opened-at Part c little kind n = refl
 opened-at Member c little kind n =
-    by-cond (λ (d : Cursor). d .at ≡ c .at + 9) (eqb kind 3) _ _ (λ t. ap (λ k. k + 9) (popped-at c))
-    (by-cond (λ (d : Cursor). d .at ≡ c .at + 9) (eqb kind 6) _ _ (λ t. ap (λ k. k + 9) (popped-at c)) (ap (λ k. k + 9) (popped-at c)))
+    by-cond (λ (d : Cursor). d .at ≡ c .at + 9) (eqb kind 3) _ _ (λ t. ap (λ k. k + 9) (pops c .at))
+    (by-cond (λ (d : Cursor). d .at ≡ c .at + 9) (eqb kind 6) _ _ (λ t. ap (λ k. k + 9) (pops c .at))
+    (members-opened (λ (d : Cursor). d .at ≡ c .at + 9) c n (popped c) (ap (λ k. k + 9) (pops c .at)) (ap (λ k. k + 9) (pops c .at)) (ap (λ k. k + 9) (pops c .at))))
 
 geometry-moved : (s : List ℕ) (c : Cursor) → Moved s c (geometryAt s c)
 unfolding geometryAt
@@ -65,21 +68,7 @@ unfolding stepAt pointAt ringAt endAt withPoints afterPoint
 step-moved s c =
     by-cond (Moved s c) (ltb 0 (c .points)) _ _ (λ t.
     by-cond (Moved s c) (remains s (c .at) 16) _ _ (λ enough.
-    let e = renewed-at (record {
-      at = c .at + 16;
-      member = c .member;
-      members = c .members;
-      header = c .header;
-      second = c .second;
-      third = c .third;
-      fourth = c .fourth;
-      parts = c .parts;
-      rings = c .rings;
-      little = c .little;
-      points = c .points - 1;
-      polygons = c .polygons;
-      total = c .total;
-    }) in
+    let e = renewed-at (pointsToCome (c .points - 1) (moved 16 c)) in
     let l = leb→le (c .at + 16) (length s) enough in
     (omega arith, omega arith)) tt)
     (by-cond (Moved s c) (ltb 0 (c .rings)) _ _ (λ t.

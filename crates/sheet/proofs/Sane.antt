@@ -13,7 +13,8 @@ use Rattle.kinds.specs.declared.Slot.the-variants.{Sheet, Table, Piece, Part, M
 use Rattle.wkb.specs.declared.Step.{Step}
 use Rattle.wkb.specs.declared.Step.the-variants.{Geometry, Ring, Point, End, Refused}
 use Rattle.little.specs.Ordered.{remains, wordAt}
-use Rattle.wkb.specs.Steps.{slotOf, complete, renewed, kindFault, countFits, upTo, popped, withRings, withParts, withMembers, withSheet, fewerParts, opened, geometryAt, ringFits, withPoints, ringAt, afterPoint, pointAt, endAt, stepAt}
+use Rattle.wkb.specs.Steps.{slotOf, complete, renewed, kindFault, countFits, upTo, popped, withRings, withParts, withSheet, fewerParts, opened, geometryAt, ringFits, withPoints, ringAt, afterPoint, pointAt, endAt, stepAt}
+use Rattle.wkb.proofs.Steps.{pops, members-opened}
 use Rattle.sheet.specs.Going.{Sane}
 
 -- What a step leads to has small counts, and what it counts is small.
@@ -33,12 +34,7 @@ count-small Part n t = omega (arith, leb→le n 64 (and-right (leb 1 n) (leb n 6
 count-small Member n t = omega (arith, leb→le n 64 (and-right (leb 1 n) (leb n 64) t))
 
 popped-sane : (c : Cursor) → Sane c → Sane (popped c)
-unfolding popped
-popped-sane c h =
-    by-cond Sane (c .header) _ _ (λ t. record { polygons = h .polygons; members = h .members })
-    (by-cond Sane (ltb 0 (c .fourth)) _ _ (λ t. record { polygons = h .polygons; members = h .members })
-    (by-cond Sane (ltb 0 (c .third)) _ _ (λ t. record { polygons = h .polygons; members = h .members })
-    (record { polygons = h .polygons; members = h .members })))
+popped-sane c h = let p = pops c in record { polygons = omega (arith, p .polygons, h .polygons); members = omega (arith, p .members, h .members) }
 
 renewed-sane : (c : Cursor) → Sane c → Sane (renewed c)
 unfolding renewed
@@ -53,7 +49,7 @@ unfolding withRings
 rings-sane b n little c h = record { polygons = one-more b (c .polygons) (h .polygons); members = h .members }
 
 opened-sane : (slot : Slot) (c : Cursor) (little : Bool) (kind n : ℕ) → T (countFits slot n) → Sane c → Sane (opened slot c little kind n)
-unfolding opened withParts withMembers withSheet fewerParts countFits
+unfolding opened withParts withSheet fewerParts countFits
 opened-sane Sheet c little kind n t h = record { polygons = h .polygons; members = omega (arith, leb→le n 65 (and-right (leb 1 n) (leb n 65) t)) }
 opened-sane Table c little kind n t h = let p = popped-sane c h in record { polygons = p .polygons; members = p .members }
 opened-sane Piece c little kind n t h = rings-sane false n little (fewerParts c) (record { polygons = h .polygons; members = h .members })
@@ -61,7 +57,8 @@ opened-sane Part c little kind n t h = rings-sane true n little (fewerParts c) (
 opened-sane Member c little kind n t h =
     let p = popped-sane c h in
     by-cond Sane (eqb kind 3) _ _ (λ t. rings-sane true n little (popped c) p)
-    (by-cond Sane (eqb kind 6) _ _ (λ t. record { polygons = p .polygons; members = p .members }) (record { polygons = p .polygons; members = p .members }))
+    (by-cond Sane (eqb kind 6) _ _ (λ t. record { polygons = p .polygons; members = p .members })
+    (members-opened Sane c n (popped c) (record { polygons = p .polygons; members = p .members }) (record { polygons = p .polygons; members = p .members }) (record { polygons = p .polygons; members = p .members })))
 
 geometry-kept : (s : List ℕ) (c : Cursor) → Sane c → Kept (geometryAt s c)
 unfolding geometryAt

@@ -8,7 +8,8 @@ ghost use Rattle.sheet.specs.Reading;
 ghost use Rattle.sheet.specs.Reading.{Taken, readingOf};
 ghost use Rattle.coordinate.specs.Coordinate.{coordinateOf};
 ghost use Rattle.wkb.specs.declared.Step.the-variants.{Point};
-ghost use Rattle.sheet.specs.Going.{laid, differs, Shows, Turned, Within, Ready, Leads, Safe, Onward, readOf};
+ghost use Rattle.sheet.specs.Going.{laid, Shows, Turned, Within, Ready, Leads, Follows, readOf};
+ghost use Rattle.sheet.specs.Behind.{closed, behindAll, Stands, Row, To, Past};
 use coordinate::Coordinate;
 use kinds::Kind;
 use kinds::Slot;
@@ -25,10 +26,10 @@ pub struct Build {
     pub y: u32,
 }
 
-// Reading goes on from a place, or is over: a code, an item, and how many numbers were read.
+// Reading goes on from a place, or is over with a code and an item.
 pub enum Turn {
     On(Cursor, Build),
-    Over(u32, u32, usize),
+    Over(u32, u32),
 }
 
 // How reading ends: with a sheet of so many numbers, or a refusal with its number and item.
@@ -185,7 +186,7 @@ fn pointing(c: Cursor, x: u32, y: u32, b: Build, numbers: &mut [u32]) -> Build
 
 // The point is the ring's last and differs from its first.
 fn differs(c: Cursor, x: u32, y: u32, b: Build) -> bool
-    ensures { λ r. ⌜ ((t : Taken) (out numbers : List ℕ) → Shows out t b numbers → r ≡ differs c x y t) ⌝ }
+    ensures { λ r. ⌜ ((t : Taken) (out numbers : List ℕ) → Shows out t b numbers → r ≡ Reading.differs c x y t) ⌝ }
 {
     if c.points != 1 {
         return false;
@@ -203,13 +204,13 @@ fn judged(c: Cursor, next: Cursor, b: Build, x: f64, y: f64, numbers: &mut [u32]
     ensures { λ r. ⌜ Leads (Point x y next) b r × ((t : Taken) (out : List ℕ) → Shows out t b (now (numbers .entry)) → Turned out (Reading.judged c next t (coordinateOf x) (coordinateOf y)) r (now (numbers .exit))) ⌝ }
 {
     let Coordinate::Whole(h) = coordinate::judge(x) else {
-        return Turn::Over(5, c.member, b.fill);
+        return Turn::Over(5, c.member);
     };
     let Coordinate::Whole(k) = coordinate::judge(y) else {
-        return Turn::Over(5, c.member, b.fill);
+        return Turn::Over(5, c.member);
     };
     if differs(c, h, k, b) {
-        return Turn::Over(6, c.member, b.fill);
+        return Turn::Over(6, c.member);
     }
     Turn::On(next, pointing(c, h, k, b, numbers))
 }
@@ -234,15 +235,15 @@ fn taken(c: Cursor, b: Build, a: Step, numbers: &mut [u32]) -> Turn
         ),
         Step::Ring(n, next) => Turn::On(next, ringing(c, n, b, numbers)),
         Step::Point(x, y, next) => judged(c, next, b, x, y, numbers),
-        Step::End(_) => Turn::Over(0, 0, b.fill),
-        Step::Refused(code, item, _) => Turn::Over(code, item, b.fill),
+        Step::End(_) => Turn::Over(0, 0),
+        Step::Refused(code, item, _) => Turn::Over(code, item),
     }
 }
 
-// The rings and points of an open polygon.
+// The rings and points of an open polygon, all of them.
 fn rings(s: &[u8], from: Cursor, had: Build, numbers: &mut [u32]) -> Turn
-    requires { ⌜ Within (now s) from had ⌝ }
-    ensures { λ r. ⌜ Safe (now (s .entry)) (from .at) r × ((t : Taken) (out : List ℕ) → Shows out t had (now (numbers .entry)) → Onward (now (s .entry)) out (Reading.reading (now (s .entry)) from t) r (now (numbers .exit))) ⌝ }
+    requires { ⌜ Within (now s) from had × (0 < from .rings) ⌝ }
+    ensures { λ r. ⌜ Follows (now (s .entry)) from had (now (numbers .entry)) (from .at) r (now (numbers .exit)) × To (closed from) r ⌝ }
 {
     let mut c = from;
     let mut b = had;
@@ -253,40 +254,38 @@ fn rings(s: &[u8], from: Cursor, had: Build, numbers: &mut [u32]) -> Turn
                 c = next;
                 b = more;
             }
-            Turn::Over(code, item, n) => {
-                return Turn::Over(code, item, n);
+            Turn::Over(code, item) => {
+                return Turn::Over(code, item);
             }
         }
     }
     Turn::On(c, b)
 }
 
-// A geometry: its header, then its rings or the geometries that it holds, so many levels deep at most.
+// A geometry, whole: its header, then its rings or the geometries that it holds, which are so many levels deep at most.
 fn geometry(s: &[u8], c: Cursor, b: Build, depth: u32, numbers: &mut [u32]) -> Turn
-    requires { ⌜ Within (now s) c b ⌝ }
-    ensures { λ r. ⌜ Safe (now (s .entry)) (c .at + 1) r × ((t : Taken) (out : List ℕ) → Shows out t b (now (numbers .entry)) → Onward (now (s .entry)) out (Reading.reading (now (s .entry)) c t) r (now (numbers .exit))) ⌝ }
+    requires { ⌜ Within (now s) c b × Stands depth c ⌝ }
+    ensures { λ r. ⌜ Follows (now (s .entry)) c b (now (numbers .entry)) (c .at + 1) r (now (numbers .exit)) × Past c r ⌝ }
 {
     let a = c.step(s);
     let t = taken(c, b, a, numbers);
     let Turn::On(next, more) = t else {
         return t;
     };
+    // where a geometry stands, no other answer goes on
     let Step::Geometry(_, n, _) = a else {
         return t;
     };
     if 0 < next.rings {
         return rings(s, next, more, numbers);
     }
-    if depth == 0 {
-        return t;
-    }
     collection(s, next, more, n, depth - 1, numbers)
 }
 
-// The n geometries that a collection, a MultiPolygon or the table holds.
+// The n geometries that the sheet, a collection, a MultiPolygon or the table holds, all of them.
 fn collection(s: &[u8], from: Cursor, had: Build, n: u32, depth: u32, numbers: &mut [u32]) -> Turn
-    requires { ⌜ Within (now s) from had ⌝ }
-    ensures { λ r. ⌜ Safe (now (s .entry)) (from .at) r × ((t : Taken) (out : List ℕ) → Shows out t had (now (numbers .entry)) → Onward (now (s .entry)) out (Reading.reading (now (s .entry)) from t) r (now (numbers .exit))) ⌝ }
+    requires { ⌜ Within (now s) from had × Row n depth from ⌝ }
+    ensures { λ r. ⌜ Follows (now (s .entry)) from had (now (numbers .entry)) (from .at) r (now (numbers .exit)) × To (behindAll n from) r ⌝ }
 {
     let mut c = from;
     let mut b = had;
@@ -298,8 +297,8 @@ fn collection(s: &[u8], from: Cursor, had: Build, n: u32, depth: u32, numbers: &
                 c = next;
                 b = more;
             }
-            Turn::Over(code, item, k) => {
-                return Turn::Over(code, item, k);
+            Turn::Over(code, item) => {
+                return Turn::Over(code, item);
             }
         }
         left -= 1;
@@ -307,31 +306,26 @@ fn collection(s: &[u8], from: Cursor, had: Build, n: u32, depth: u32, numbers: &
     Turn::On(c, b)
 }
 
-// Reads a sheet into lent numbers: its numbers form, each number plus 10,000,000, as far as there is room.
+// Reads a sheet into lent numbers: its numbers form, each number plus 10,000,000, as far as there is room. The sheet is one geometry, with
+// collections 4 deep and a MultiPolygon in them; behind it comes the end, or bytes that are too many.
 pub fn read(s: &[u8], numbers: &mut [u32]) -> Ending
     ensures { λ r. ⌜ (r ≡ readOf (readingOf (now (s .entry)))) × (now (numbers .exit) ≡ laid (readingOf (now (s .entry)) .numbers) (now (numbers .entry))) ⌝ }
 {
-    let mut c = Cursor::START;
-    let mut b = Build {
+    let b = Build {
         fill: 0,
         mark: 0,
         first: false,
         x: 0,
         y: 0,
     };
-    loop {
-        let t = geometry(s, c, b, 5, numbers);
-        match t {
-            Turn::On(next, more) => {
-                c = next;
-                b = more;
-            }
-            Turn::Over(code, item, n) => {
-                if code == 0 {
-                    return Ending::Sheet(n);
-                }
-                return Ending::Refused(code, item);
-            }
+    let t = geometry(s, Cursor::START, b, 5, numbers);
+    match t {
+        Turn::On(c, more) => {
+            let Step::End(_) = c.step(s) else {
+                return Ending::Refused(7, 0);
+            };
+            Ending::Sheet(more.fill)
         }
+        Turn::Over(code, item) => Ending::Refused(code, item),
     }
 }

@@ -126,6 +126,6 @@ pub extern "C" fn sheet_listing(sheet: &[u8], out: &mut [u8]) -> u64
     if out.len() < n {
         return 40;
     }
-    lent::write_text(&text[..n], out);
+    text::put_word(out, 0, &text[..n]);
     n as u64 * 256
 }

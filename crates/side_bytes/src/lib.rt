@@ -5,10 +5,10 @@ ghost use Prim.Native.Nat.{_+_, _*_, _≤_};
 ghost use lib.ListN.{length, drop};
 ghost use lib.Seq.{sets};
 ghost use Rattle.whole.specs.Sums.{All};
-ghost use Rattle.little.specs.Bytes.{SideIn, sideHeld};
+ghost use Rattle.little.specs.Held.{SideIn, sideHeld};
 ghost use Rattle.lent.specs.Answered.{Answered};
 ghost use Rattle.regions.specs.Spreading.{Paired};
-ghost use Rattle.answers.specs.Answers.{sidesOutcome};
+ghost use Rattle.answers.specs.Held.{sidesOutcome};
 
 // Writes side k of the table, off the numbers form: the coordinates of corner k, then those of the next corner of its triangle.
 fn put_side(numbers: &[u32], k: usize, out: &mut [u8], at: usize)

@@ -42,7 +42,8 @@ use Rattle.kinds.specs.declared.Kind.the-variants.{Collection, Tin}
 use Rattle.wkb.specs.Standard.{Geometry, ringed, holding, Geometries, none, _then_, count, encode, encodeAll}
 use Rattle.wkb.specs.Steps.{start, slotOf, complete, kindFault, countFits, popped, withParts, withSheet, opened}
 use Rattle.sheet.specs.Numbers.{Sheet, numbersOf}
-use Rattle.sheet.specs.Reading.{Taken, nothing, held, opening, readingOf, reading}
+use Rattle.sheet.specs.Reading.{Taken, nothing, held, opening, readingOf}
+use Rattle.sheet.specs.Going.{reading}
 use Rattle.standard.specs.Limits.{memberOf, triangleOf, each, sheetOf, FromTo, PieceFits, Each, SheetFits, allLengths}
 use Rattle.sheet.proofs.Run.{reading-starts}
 use Rattle.standard.proofs.Standard.Fields.{Bytes, heading, heading-is, heads}

@@ -12,12 +12,12 @@ use lib.ListN.{length, getD, drop, set, drop-of-length-le}
 use lib.Seq.{drop-cons}
 use Rattle.whole.specs.Numbers.{smaller, greater}
 use Rattle.whole.specs.Sums.{All}
-use Rattle.whole.proofs.Int.{_⊖_, ⊖-le, ≤-antisym}
+use Rattle.whole.proofs.Int.{⊖-le, ≤-antisym, _⊖_}
 use Rattle.whole.proofs.Tests.{by-test}
 use Rattle.plane.specs.declared.Corner.{Corner}
 use Rattle.plane.specs.Members.{edges}
-use Rattle.plane.specs.Corners.{millimetres, point, Held, InRange}
-use Rattle.plane.specs.Keys.{keyOf, cornerOf, pointAt, pointsAt, Key, pairs}
+use Rattle.plane.specs.Corners.{millimetres}
+use Rattle.plane.specs.Keys.{point, Held, InRange, keyOf, cornerOf, pointAt, pointsAt, Key, pairs}
 use Rattle.table.specs.Table.{corners, least, greatest, rectangle, frame}
 use Rattle.table.specs.Sides.{trianglesOf}
 

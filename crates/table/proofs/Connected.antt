@@ -21,13 +21,14 @@ use Rattle.whole.proofs.Ring.{difference, solve}
 use Rattle.whole.proofs.Sums.{sum-flatMap}
 use Rattle.plane.specs.Points.{Point, Edge, Triangle, flip, samePoint, sameEdge, sides}
 use Rattle.plane.specs.Cuts.{allPieces}
-use Rattle.plane.specs.Boundaries.{SameBoundary, NoBoundary, sidesOf}
+use Rattle.plane.specs.Boundaries.{SameBoundary, sidesOf}
 use Rattle.plane.specs.Members.{edges}
 use Rattle.plane.proofs.Boundaries.{edge-sum}
 use Rattle.plane.proofs.Chains.{Chain, leaves, comes, keep, keep-all, keep-none, count-kept, count-dropped, at-count, round}
 use Rattle.plane.proofs.Cuts.{pieces-chain}
 use Rattle.table.specs.Table.{corners, rectangle, frame, RuleA, RuleB, RuleC}
-use Rattle.table.specs.Sets.{SetOf, chosen, Closed}
+use Rattle.table.specs.Sets.{SetOf, chosen}
+use Rattle.table.specs.Sides.{NoBoundary, Closed}
 use Rattle.table.proofs.Sets.{both, zero-empty, zero-full}
 use Rattle.table.proofs.Frame.{width, height, rectangle-once}
 

@@ -12,7 +12,8 @@ use Rattle.plane.specs.Points.{Edge, flip, sameEdge}
 use Rattle.plane.specs.Boundaries.{sidesOf}
 use Rattle.table.specs.Table.{RuleA, RuleB}
 use Rattle.table.specs.Sets.{SetOf, chosen}
-use Rattle.table.specs.Sides.{trianglesOf, sideAt, opposites}
+use Rattle.table.specs.Sides.{trianglesOf, sideAt}
+use Rattle.table.specs.Opposites.{opposites}
 use Rattle.table.proofs.Sets.{all-reached}
 use Rattle.table.proofs.Shares.{length-triangles, among-side, opposite-no, opposite-is, fewer-sides, side-count}
 

@@ -15,11 +15,12 @@ use Rattle.whole.specs.Sums.{All, Among, sum, count, net}
 use Rattle.whole.proofs.Int.{zify, ints, parts}
 use Rattle.whole.proofs.Sums.{count-++}
 use Rattle.plane.specs.Points.{Edge, Triangle, flip, sameEdge, double, sides}
-use Rattle.plane.specs.Boundaries.{SameBoundary, NoBoundary, sidesOf}
+use Rattle.plane.specs.Boundaries.{SameBoundary, sidesOf}
 use Rattle.plane.proofs.Points.{sameEdge-eq, sameEdge-refl}
 use Rattle.plane.proofs.Boundaries.{areas}
 use Rattle.table.specs.Table.{RuleA, RuleB}
-use Rattle.table.specs.Sets.{SetOf, chosen, Closed}
+use Rattle.table.specs.Sets.{SetOf, chosen}
+use Rattle.table.specs.Sides.{NoBoundary, Closed}
 
 -- ---- a set without a boundary is empty
 positive : (l : List Triangle) → RuleA l → pos 0 ≤ℤ sum double l

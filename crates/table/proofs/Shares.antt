@@ -21,7 +21,8 @@ use Rattle.plane.proofs.Points.{sameEdge-eq, sameEdge-refl}
 use Rattle.plane.proofs.Boundaries.{equal-everywhere}
 use Rattle.table.specs.Table.{RuleB}
 use Rattle.table.specs.Sets.{SetOf, chosen}
-use Rattle.table.specs.Sides.{trianglesOf, tailsOf, sideAt, later, foundAt, opposites, mark, across, share}
+use Rattle.table.specs.Sides.{trianglesOf, tailsOf, sideAt, mark, across, share}
+use Rattle.table.specs.Opposites.{later, foundAt, opposites}
 use Rattle.table.proofs.Sets.{tally, count-tally}
 
 -- ---- places in a list of pairs

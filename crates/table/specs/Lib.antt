@@ -2,3 +2,4 @@
 pub mod Table
 pub mod Sets
 pub mod Sides
+pub mod Opposites

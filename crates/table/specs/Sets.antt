@@ -3,9 +3,7 @@ use mathlib.Core.Path.{_≡_}
 use mathlib.Core.Bool.{Bool, true, false}
 use mathlib.Core.List.{List, [], _∷_, _++_, map}
 use lib.ListN.{length}
-use Rattle.whole.specs.Sums.{Among}
-use Rattle.plane.specs.Points.{Edge, Triangle, flip, sameEdge}
-use Rattle.plane.specs.Boundaries.{sidesOf}
+use Rattle.plane.specs.Points.{Triangle}
 
 -- A set of triangles of the table: as many marks as triangles.
 abbrev pub SetOf : List Triangle → List Bool → Type 0
@@ -22,7 +20,3 @@ chosen (a ∷ l) (false ∷ s) = chosen l s
 abbrev pub allSets : List Triangle → List (List Bool)
 allSets [] = [] ∷ []
 allSets (t ∷ l) = map (λ s. true ∷ s) (allSets l) ++ map (λ s. false ∷ s) (allSets l)
-
--- A set that has with a triangle also the triangle across each of its sides, where the table has one.
-abbrev pub Closed : List Triangle → List Bool → Type 0
-Closed table s = (e : Edge) → Among sameEdge e (sidesOf (chosen table s)) → Among sameEdge (flip e) (sidesOf table) → Among sameEdge (flip e) (sidesOf (chosen table s))

@@ -1,14 +1,16 @@
 -- The table as the code holds it: its corners as numbers, three for each triangle; its sides in table order, by triangle and then ab, bc, ca.
 use mathlib.Core.Path.{_≡_}
-use mathlib.Core.Bool.{Bool, false, cond}
-use mathlib.Core.List.{List, [], _∷_, map}
+use mathlib.Core.Bool.{Bool, false}
+use mathlib.Core.List.{List, [], _∷_}
 use mathlib.Core.Option.{Option, none, some}
 use Prim.Native.Nat.{ℕ, zero, suc, _-_, _*_, _/_, _%_, _<_}
 use lib.IntN.{ℤ, pos, _-ℤ_}
 use lib.ListN.{length, getD}
-use Rattle.whole.specs.Sums.{All, bit}
+use Rattle.whole.specs.Sums.{All, Among, bit}
+use Rattle.plane.specs.Boundaries.{boundary, sidesOf}
 use Rattle.plane.specs.Points.{Edge, Triangle, flip, sameEdge}
 use Rattle.plane.specs.Keys.{pointAt, pair}
+use Rattle.table.specs.Sets.{chosen}
 
 -- The triangles whose corners these are.
 abbrev pub trianglesOf : List ℕ → List Triangle
@@ -26,19 +28,6 @@ tailsOf (a ∷ b ∷ c ∷ l) = b ∷ c ∷ a ∷ tailsOf l
 
 abbrev pub sideAt : List ℕ → ℕ → Edge
 sideAt keys k = pair (getD keys k 0) (getD (tailsOf keys) k 0)
-
--- The number, counted from 1, of the first pair of a list that is e; 0 where there is none.
-abbrev pub later : ℕ → ℕ
-later zero = 0
-later (suc n) = suc (suc n)
-
-abbrev pub foundAt : Edge → List Edge → ℕ
-foundAt e [] = 0
-foundAt e (x ∷ l) = cond (sameEdge x e) 1 (later (foundAt e l))
-
--- For each side the number of the side that is its reverse, 0 where the table has none: the triangle across it is that side's.
-unfoldable pub opposites : List Edge → List ℕ
-opposites sides = map (λ e. foundAt (flip e) sides) sides
 
 -- What a set of triangles has across a side, by the number of its reverse: 1 where the triangle there is in the set.
 abbrev pub mark : List Bool → ℕ → ℕ
@@ -84,3 +73,11 @@ NoneBelow codes n = (k : ℕ) → k < n → Earlier codes k → ⊥
 abbrev pub FirstRepeat : List ℕ → ℕ → Type 0
 FirstRepeat codes zero = NoneBelow codes (length codes)
 FirstRepeat codes (suc t) = (k : ℕ) × (k < length codes) × (t ≡ k / 3) × Earlier codes k × NoneBelow codes k
+
+-- A set that has with a triangle also the triangle across each of its sides, where the table has one.
+abbrev pub Closed : List Triangle → List Bool → Type 0
+Closed table s = (e : Edge) → Among sameEdge e (sidesOf (chosen table s)) → Among sameEdge (flip e) (sidesOf table) → Among sameEdge (flip e) (sidesOf (chosen table s))
+
+-- A list of ordered pairs has no boundary: zero at every ordered pair.
+abbrev pub NoBoundary : List Edge → Type 0
+NoBoundary l = (e : Edge) → boundary l e ≡ pos 0

@@ -1,34 +1,68 @@
--- Text put together: a byte behind what stands, a word byte by byte, a field after a byte, the digits of a number. Assumes nothing.
-use mathlib.Core.Path.{_≡_, sym, ap, subst, _∙_}
+-- Text put together: a word byte by byte, one word behind another, the digits of a number. Assumes nothing.
+use mathlib.Core.Path.{_≡_, sym, ap, ap₂, subst, _∙_}
 use mathlib.Core.Bool.{cond}
 use mathlib.Core.List.{List, [], _∷_, _++_, append-assoc}
 use Prim.Native.Nat.{ℕ, zero, suc, _+_, _-_, _/_, _%_, _^_, _≤_, _<_}
-use native.Mathlib.Nat.{pow-zero, pow-suc, add-assoc, div-lt-iff-lt-mul}
+use native.Mathlib.Nat.{pow-zero, pow-suc, add-zero, zero-add, add-assoc, div-lt-iff-lt-mul}
 use native.Mathlib.Numerals.{add-one, sub-one}
 use native.Mathlib.Omega.{arith}
 use borrow.Author.Tests.{le-leb, lt-leb}
 use lib.Dec.{lit<}
-use lib.ListN.{length, getD, set, take}
-use lib.Seq.{take-suc, take-suc-set}
+use lib.ListN.{length, take, drop, set, length-append}
+use lib.Seq.{length-take-le, take-all, take-at, append-snoc, set-split, drop-append-add, drop-drop, paste, paste-zero}
 use Rattle.text.specs.Text.{digits}
+use Rattle.text.specs.Putting.{putAt, Put}
 
-pub byte-behind : (l : List ℕ) (n x : ℕ) → n < length l → take (n + 1) (set l n x) ≡ take n l ++ x ∷ []
-byte-behind l n x h = ap (λ (k : ℕ). take k (set l n x)) (add-one n) ∙ take-suc-set l n x h
+-- A byte that is stored is put; a word whose bytes are all copied is put; with nothing put the text is as it was.
+pub byte-put : (t : List ℕ) (n x : ℕ) → n < length t → set t n x ≡ putAt n (x ∷ []) t
+unfolding putAt
+byte-put t n x h = set-split t n x h ∙ ap (λ k. take n t ++ x ∷ drop k t) (sym (add-one n)) ∙ sym (append-snoc (take n t) x (drop (n + 1) t))
 
--- a word's next byte, stored behind those that stand
-pub word-grows : (t l w : List ℕ) (n i : ℕ) → n + i < length t → i < length w → take (n + i) t ≡ take n l ++ take i w → take (n + (i + 1)) (set t (n + i) (getD w i 0)) ≡ take n l ++ take (i + 1) w
-word-grows t l w n i h k e =
-    ap (λ (m : ℕ). take m (set t (n + i) (getD w i 0))) (sym (add-assoc n i 1)) ∙ byte-behind t (n + i) (getD w i 0) h
-    ∙ ap (λ (r : List ℕ). r ++ getD w i 0 ∷ []) e ∙ append-assoc (take n l) (take i w) (getD w i 0 ∷ [])
-    ∙ ap (λ (r : List ℕ). take n l ++ r) (sym (ap (λ (m : ℕ). take m w) (add-one i) ∙ take-suc w i 0 k))
+pub word-put : (t w : List ℕ) (n i : ℕ) → i ≡ length w → paste t n w i ≡ putAt n w t
+unfolding putAt
+word-put t w n i e = ap₂ (λ v k. take n t ++ v ++ drop (n + k) t) (take-all i w (omega arith)) e
 
--- what is put behind what was put
-pub and-then : {p : List ℕ} (q a b : List ℕ) → p ≡ q ++ a → p ++ b ≡ q ++ (a ++ b)
-and-then q a b e = ap (λ (r : List ℕ). r ++ b) e ∙ append-assoc q a b
+pub nothing-put : (t : List ℕ) (n : ℕ) → Put n [] t n t
+unfolding putAt
+nothing-put t n = record { place = sym (add-zero n); text = paste-zero t n [] }
 
--- a byte between and a field behind it
-pub next-field : {p r s : List ℕ} (q w : List ℕ) (x : ℕ) (a : List ℕ) → p ≡ q ++ w → r ≡ p ++ x ∷ [] → s ≡ r ++ a → s ≡ q ++ (w ++ x ∷ a)
-next-field {p} q w x a e f g = g ∙ ap (λ (k : List ℕ). k ++ a) f ∙ append-assoc p (x ∷ []) a ∙ and-then q w (x ∷ a) e
+-- A word put at the front: it stands before the place behind it, and what stood there follows.
+module _ {word before after : List ℕ} {r : ℕ} (p : Put 0 word before r after) where
+  pub put-over : after ≡ word ++ drop (length word) before
+  unfolding putAt
+  put-over = p .text ∙ ap (λ k. word ++ drop k before) (zero-add (length word))
+
+  pub put-front : take r after ≡ word
+  put-front = ap (take r) put-over ∙ take-at word (drop (length word) before) r (sym (zero-add (length word)) ∙ sym (p .place))
+
+-- What is put behind a word that was put: both are put as one.
+module _ {n r k : ℕ} {a b before between after : List ℕ} (fits : n ≤ length before) (p : Put n a before r between) (q : Put r b between k after) where
+  behind-both : n + length (a ++ b) ≡ n + length a + length b
+  behind-both = omega (arith, length-append a b)
+
+  front : length (take n before ++ a) ≡ r
+  front = omega (arith, length-append (take n before) a, length-take-le n before fits, p .place)
+
+  unfolded : between ≡ take n before ++ a ++ drop (n + length a) before
+  unfolding putAt
+  unfolded = p .text
+
+  left : take r between ≡ take n before ++ a
+  left = ap (take r) unfolded ∙ take-at (take n before ++ a) (drop (n + length a) before) r front
+
+  right : drop (r + length b) between ≡ drop (n + length (a ++ b)) before
+  right =
+      ap₂ (λ m t. drop (m + length b) t) (sym front) unfolded
+      ∙ drop-append-add (take n before ++ a) (drop (n + length a) before) (length b)
+      ∙ drop-drop (length b) (n + length a) before
+      ∙ ap (λ m. drop m before) (sym behind-both)
+
+  pub put-behind : Put n (a ++ b) before k after
+  unfolding putAt
+  put-behind = record {
+    place = omega (arith, p .place, q .place, behind-both);
+    text = q .text ∙ ap₂ (λ l m. l ++ b ++ m) left right ∙ ap (λ l. l ++ drop (n + length (a ++ b)) before) (append-assoc (take n before) a b);
+  }
 
 -- a number of more than one digit needs room for two
 pub room-for-two : (most n : ℕ) → 9 < n → n < 10 ^ most → 2 ≤ most

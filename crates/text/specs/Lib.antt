@@ -1,2 +1,3 @@
 -- The text of the listing.
 pub mod Text
+pub mod Putting

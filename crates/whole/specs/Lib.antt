@@ -3,3 +3,4 @@
 pub mod Numbers
 pub mod Sums
 pub mod Polynomials
+pub mod Tests

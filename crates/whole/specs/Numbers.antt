@@ -1,5 +1,5 @@
--- Tests on whole numbers that compute, and what the answer of a test tells. The order is the library's: `ltZ`, `leZ` and `_<ℤ_`, `_≤ℤ_` of lib.Signed.
-use mathlib.Core.Bool.{Bool, true, false, cond}
+-- Tests on whole numbers that compute, and a bound on their size. The order is the library's: `ltZ`, `leZ` and `_<ℤ_`, `_≤ℤ_` of lib.Signed.
+use mathlib.Core.Bool.{Bool, false, cond}
 use Prim.Native.Nat.{ℕ, _≤_}
 use lib.Dec.{eqb}
 use lib.IntN.{ℤ, pos, negsuc, natAbs}
@@ -22,8 +22,3 @@ greater z w = cond (leZ z w) w z
 -- The number is from -n to n.
 pub record Within (n : ℕ) (z : ℤ) : Type 0 where
   pub size : natAbs z ≤ n
-
--- What holds where the answer of a test is yes, and where it is no.
-abbrev pub Told : Bool → Type 0 → Type 0 → Type 0
-Told true A B = A
-Told false A B = B

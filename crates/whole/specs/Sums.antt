@@ -1,5 +1,5 @@
--- Sums and counts over lists, and net counts: how often a thing stands in a list, less how often its reverse does.
-use mathlib.Core.Bool.{Bool, true, false}
+-- Tests, sums and counts over lists, and net counts: how often a thing stands in a list, less how often its reverse does.
+use mathlib.Core.Bool.{Bool, true, false, cond}
 use mathlib.Core.List.{List, [], _∷_}
 use Prim.Native.Nat.{ℕ, _+_, _≤_}
 use lib.IntN.{ℤ, pos, _+ℤ_, _-ℤ_}
@@ -18,6 +18,11 @@ every p (a ∷ l) = elim (p a) [ true ↦ every p l | false ↦ false ]
 abbrev pub any : {A : Type 0} → (A → Bool) → List A → Bool
 any p [] = false
 any p (a ∷ l) = elim (p a) [ true ↦ true | false ↦ any p l ]
+
+-- The members of the list that pass the test, in their order.
+abbrev pub passing : {A : Type 0} → (A → Bool) → List A → List A
+passing p [] = []
+passing p (a ∷ l) = cond (p a) (a ∷ passing p l) (passing p l)
 
 -- The sum of f over the members of the list.
 abbrev pub sum : {A : Type 0} → (A → ℤ) → List A → ℤ

@@ -1,3 +1,5 @@
 -- The theorems of the binary form.
 pub mod Steps
 pub mod Again
+pub mod Complete
+pub mod Allowed

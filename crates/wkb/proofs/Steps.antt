@@ -1,14 +1,16 @@
 -- Laws of the steps' definitions, which several proofs cite. Assumes nothing.
-use borrow.Author.Tests.{ne-eqb, eq-eqb, le-leb, lt-leb, leb-true, leb-false, eqb-true}
+use borrow.Author.Tests.{ne-eqb, eq-eqb, lt-ltb, le-ltb, le-leb, lt-leb, leb-true, leb-false, eqb-true}
 use mathlib.Core.Path.{_≡_, refl, sym, _∙_}
 use mathlib.Core.Bool.{Bool, true, false, _&&_, and-eq-true-iff}
 use Prim.Native.Nat.{ℕ, _+_, _-_, _≤_, _<_}
 use native.Mathlib.Omega.{arith}
 use lib.Dec.{leb, ltb, eqb}
+use Rattle.whole.proofs.Tests.{by-equal, by-cond}
 use Rattle.wkb.specs.declared.Cursor.{Cursor}
 use Rattle.kinds.specs.declared.Slot.{Slot}
 use Rattle.kinds.specs.declared.Slot.the-variants.{Sheet, Table, Piece, Part, Member}
-use Rattle.wkb.specs.Steps.{complete, popped, countFits, ringFits}
+use Rattle.wkb.specs.Places.{moved, geometriesToCome, headerToCome, secondToCome, thirdToCome, fourthToCome}
+use Rattle.wkb.specs.Steps.{complete, popped, withMembers, countFits, ringFits}
 
 -- A test of a difference is the test of the sum.
 pub within : (t n k l : ℕ) → n ≤ l → t + n ≡ k → leb t (l - n) ≡ leb k l
@@ -23,16 +25,47 @@ pub complete-points : (c : Cursor) → c .header ≡ false → c .second ≡ 0 �
 unfolding complete
 complete-points c h s t f p r = simp (h, eq-eqb (c .second) 0 s, eq-eqb (c .third) 0 t, eq-eqb (c .fourth) 0 f, eq-eqb (c .parts) 0 p, eq-eqb (c .rings) 0 r)
 
--- The place of what is one fewer is the same byte.
-pub popped-at : (c : Cursor) → popped c .at ≡ c .at
+-- What one fewer leaves as it was; the member's own header is not to come then.
+pub record Popped (c d : Cursor) : Type 0 where
+  pub at : d .at ≡ c .at
+  pub member : d .member ≡ c .member
+  pub members : d .members ≡ c .members
+  pub header : d .header ≡ false
+  pub parts : d .parts ≡ c .parts
+  pub rings : d .rings ≡ c .rings
+  pub points : d .points ≡ c .points
+  pub polygons : d .polygons ≡ c .polygons
+  pub total : d .total ≡ c .total
+
+pub pops : (c : Cursor) → Popped c (popped c)
 unfolding popped
-popped-at c = go (c .header) (ltb 0 (c .fourth)) (ltb 0 (c .third)) refl refl refl
+pops c =
+    by-equal (Popped c) (c .header) _ _ (λ e. kept refl) (λ e. by-cond (Popped c) (ltb 0 (c .fourth)) _ _ (λ t. kept e) (by-cond (Popped c) (ltb 0 (c .third)) _ _ (λ t. kept e) (kept e)))
   where
-    go : (h f t : Bool) → c .header ≡ h → ltb 0 (c .fourth) ≡ f → ltb 0 (c .third) ≡ t → popped c .at ≡ c .at
-    go true f t p q r = simp p
-    go false true t p q r = simp (p, q)
-    go false false true p q r = simp (p, q, r)
-    go false false false p q r = simp (p, q, r)
+    kept : {header : Bool} {second third fourth : ℕ} → header ≡ false → Popped c (geometriesToCome header second third fourth (c .parts) c)
+    kept e = record { at = refl; member = refl; members = refl; header = e; parts = refl; rings = refl; points = refl; polygons = refl; total = refl }
+
+-- What one fewer is, by where it stands: the member's own, and in the open collections at depth 4, 3 and 2.
+pub popped-own : (c : Cursor) → c .header ≡ true → popped c ≡ headerToCome false c
+unfolding popped
+popped-own c h = rw h
+
+pub popped-fourth : (c : Cursor) → c .header ≡ false → 0 < c .fourth → popped c ≡ fourthToCome (c .fourth - 1) c
+unfolding popped
+popped-fourth c h f = rw (h, lt-ltb 0 (c .fourth) f)
+
+pub popped-third : (c : Cursor) → c .header ≡ false → c .fourth ≡ 0 → 0 < c .third → popped c ≡ thirdToCome (c .third - 1) c
+unfolding popped
+popped-third c h f t = rw (h, le-ltb 0 (c .fourth) (omega arith), lt-ltb 0 (c .third) t)
+
+pub popped-second : (c : Cursor) → c .header ≡ false → c .fourth ≡ 0 → c .third ≡ 0 → popped c ≡ secondToCome (c .second - 1) c
+unfolding popped
+popped-second c h f t = rw (h, le-ltb 0 (c .fourth) (omega arith), le-ltb 0 (c .third) (omega arith))
+
+-- What holds at whatever depth the members of a collection are to come holds of the place where it is opened.
+pub members-opened : (P : Cursor → Type 0) (stood : Cursor) (n : ℕ) (c : Cursor) → P (secondToCome n (moved 9 c)) → P (thirdToCome n (moved 9 c)) → P (fourthToCome n (moved 9 c)) → P (withMembers stood n c)
+unfolding withMembers
+members-opened P stood n c p q r = by-cond P (stood .header) _ _ (λ t. p) (by-cond P (ltb 0 (stood .third)) _ _ (λ t. r) q)
 
 -- A count within its limits is not 0.
 pub count-some : (s : Slot) (n : ℕ) → countFits s n ≡ true → 0 < n

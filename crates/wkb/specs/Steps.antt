@@ -1,5 +1,5 @@
 -- The steps of reading: what one step answers at a place. At each field a missing byte comes before any fault of the value.
-use mathlib.Core.Bool.{Bool, true, false, not, cond, _&&_, _||_}
+use mathlib.Core.Bool.{Bool, false, true, not, cond, _&&_}
 use mathlib.Core.List.{List}
 use Prim.Native.Nat.{ℕ, _+_, _-_}
 use lib.Dec.{leb, ltb, eqb}
@@ -10,6 +10,7 @@ use Rattle.kinds.specs.declared.Slot.the-variants.{Sheet, Table, Piece, Part, M
 use Rattle.wkb.specs.declared.Step.{Step}
 use Rattle.wkb.specs.declared.Step.the-variants.{Geometry, Ring, Point, End, Refused}
 use Rattle.kinds.specs.Kinds.{slotAt}
+use Rattle.wkb.specs.Places.{moved, naming, headerToCome, secondToCome, thirdToCome, fourthToCome, partsToCome, ringsToCome, ordered, pointsToCome, polygonsBegun, pointsCounted}
 use Rattle.types.specs.Types.{crowdedAt, deepAt, faultAt}
 use Rattle.little.specs.Ordered.{remains, wordAt, doubleAt}
 
@@ -50,6 +51,13 @@ itemOf (Refused code item c) = item
 abbrev pub refusal : ℕ → Cursor → Step
 refusal code c = Refused code (c .member) c
 
+-- What follows where the test holds, else a refusal; and what follows where nothing is wrong, else a refusal with the code of what is.
+abbrev pub needing : Bool → ℕ → Cursor → Step → Step
+needing test code c next = cond test next (refusal code c)
+
+abbrev pub unless : ℕ → Cursor → Step → Step
+unless code c next = cond (eqb code 0) next (refusal code c)
+
 -- Which geometry stands at a place.
 unfoldable pub slotOf : Cursor → Slot
 slotOf c = slotAt (c .member) (c .parts)
@@ -65,24 +73,7 @@ upTo limit n = cond (ltb n limit) (n + 1) n
 
 -- Where a member is complete and another follows, the place names that one, and its own header is to come.
 unfoldable pub renewed : Cursor → Cursor
-renewed c =
-    cond (complete c && ltb 0 (c .members))
-    (record {
-      at = c .at;
-      member = upTo 65 (c .member);
-      members = c .members - 1;
-      header = true;
-      second = c .second;
-      third = c .third;
-      fourth = c .fourth;
-      parts = c .parts;
-      rings = c .rings;
-      little = c .little;
-      points = c .points;
-      polygons = 0;
-      total = c .total;
-    })
-    c
+renewed c = cond (complete c && ltb 0 (c .members)) (headerToCome true (polygonsBegun 0 (naming (upTo 65 (c .member)) (c .members - 1) c))) c
 
 -- ---- a geometry's header: byte order, type, count
 -- The 65th polygon under a member: 4. A collection at depth 5: 8.
@@ -107,164 +98,31 @@ countFits Member n = leb 1 n && leb n 64
 -- One geometry fewer is to come where this one stands: the member's own, or one of the innermost collection that has any left.
 unfoldable pub popped : Cursor → Cursor
 popped c =
-    cond (c .header)
-    (record {
-      at = c .at;
-      member = c .member;
-      members = c .members;
-      header = false;
-      second = c .second;
-      third = c .third;
-      fourth = c .fourth;
-      parts = c .parts;
-      rings = c .rings;
-      little = c .little;
-      points = c .points;
-      polygons = c .polygons;
-      total = c .total;
-    })
-    (cond (ltb 0 (c .fourth))
-    (record {
-      at = c .at;
-      member = c .member;
-      members = c .members;
-      header = c .header;
-      second = c .second;
-      third = c .third;
-      fourth = c .fourth - 1;
-      parts = c .parts;
-      rings = c .rings;
-      little = c .little;
-      points = c .points;
-      polygons = c .polygons;
-      total = c .total;
-    })
-    (cond (ltb 0 (c .third))
-    (record {
-      at = c .at;
-      member = c .member;
-      members = c .members;
-      header = c .header;
-      second = c .second;
-      third = c .third - 1;
-      fourth = c .fourth;
-      parts = c .parts;
-      rings = c .rings;
-      little = c .little;
-      points = c .points;
-      polygons = c .polygons;
-      total = c .total;
-    })
-    (record {
-      at = c .at;
-      member = c .member;
-      members = c .members;
-      header = c .header;
-      second = c .second - 1;
-      third = c .third;
-      fourth = c .fourth;
-      parts = c .parts;
-      rings = c .rings;
-      little = c .little;
-      points = c .points;
-      polygons = c .polygons;
-      total = c .total;
-    })))
-
--- A polygon is opened: so many rings in this byte order are to come. Pieces of the table are not counted as polygons.
-unfoldable pub withRings : Bool → ℕ → Bool → Cursor → Cursor
-withRings counted n little c =
-    record {
-      at = c .at + 9;
-      member = c .member;
-      members = c .members;
-      header = c .header;
-      second = c .second;
-      third = c .third;
-      fourth = c .fourth;
-      parts = c .parts;
-      rings = n;
-      little = little;
-      points = c .points;
-      polygons = cond counted (upTo 64 (c .polygons)) (c .polygons);
-      total = c .total;
-    }
-
--- A table or a MultiPolygon is opened: so many pieces or parts are to come.
-unfoldable pub withParts : ℕ → Cursor → Cursor
-withParts n c =
-    record {
-      at = c .at + 9;
-      member = c .member;
-      members = c .members;
-      header = c .header;
-      second = c .second;
-      third = c .third;
-      fourth = c .fourth;
-      parts = n;
-      rings = c .rings;
-      little = c .little;
-      points = c .points;
-      polygons = c .polygons;
-      total = c .total;
-    }
-
--- A collection is opened under a member: at depth 2 if it is the member itself, else one deeper than the collection it stands in.
-unfoldable pub withMembers : Cursor → ℕ → Cursor → Cursor
-withMembers stood n c =
-    record {
-      at = c .at + 9;
-      member = c .member;
-      members = c .members;
-      header = c .header;
-      second = cond (stood .header) n (c .second);
-      third = cond (stood .header || ltb 0 (stood .third)) (c .third) n;
-      fourth = cond (stood .header) (c .fourth) (cond (ltb 0 (stood .third)) n (c .fourth));
-      parts = c .parts;
-      rings = c .rings;
-      little = c .little;
-      points = c .points;
-      polygons = c .polygons;
-      total = c .total;
-    }
-
--- The sheet is opened: its first member, the table, begins.
-unfoldable pub withSheet : ℕ → Cursor → Cursor
-withSheet n c =
-    record {
-      at = c .at + 9;
-      member = 1;
-      members = n - 1;
-      header = true;
-      second = c .second;
-      third = c .third;
-      fourth = c .fourth;
-      parts = c .parts;
-      rings = c .rings;
-      little = c .little;
-      points = c .points;
-      polygons = c .polygons;
-      total = c .total;
-    }
+    cond (c .header) (headerToCome false c)
+    (cond (ltb 0 (c .fourth)) (fourthToCome (c .fourth - 1) c)
+    (cond (ltb 0 (c .third)) (thirdToCome (c .third - 1) c)
+    (secondToCome (c .second - 1) c)))
 
 -- One piece or part fewer is to come.
 unfoldable pub fewerParts : Cursor → Cursor
-fewerParts c =
-    record {
-      at = c .at;
-      member = c .member;
-      members = c .members;
-      header = c .header;
-      second = c .second;
-      third = c .third;
-      fourth = c .fourth;
-      parts = c .parts - 1;
-      rings = c .rings;
-      little = c .little;
-      points = c .points;
-      polygons = c .polygons;
-      total = c .total;
-    }
+fewerParts c = partsToCome (c .parts - 1) c
+
+-- The sheet is opened: its first member, the table, begins.
+unfoldable pub withSheet : ℕ → Cursor → Cursor
+withSheet n c = headerToCome true (naming 1 (n - 1) (moved 9 c))
+
+-- A table or a MultiPolygon is opened: so many pieces or parts are to come.
+unfoldable pub withParts : ℕ → Cursor → Cursor
+withParts n c = partsToCome n (moved 9 c)
+
+-- A collection is opened under a member: at depth 2 where it stood as the member itself, at depth 4 where it stood in the collection at depth 3,
+-- else at depth 3. So many members of it are to come.
+unfoldable pub withMembers : Cursor → ℕ → Cursor → Cursor
+withMembers stood n c = cond (stood .header) (secondToCome n (moved 9 c)) (cond (ltb 0 (stood .third)) (fourthToCome n (moved 9 c)) (thirdToCome n (moved 9 c)))
+
+-- A polygon is opened: so many rings in this byte order are to come. Pieces of the table are not counted as polygons.
+unfoldable pub withRings : Bool → ℕ → Bool → Cursor → Cursor
+withRings counts n little c = ringsToCome n (ordered little (polygonsBegun (cond counts (upTo 64 (c .polygons)) (c .polygons)) (moved 9 c)))
 
 -- The place after a header of this byte order, type and count.
 unfoldable pub opened : Slot → Cursor → Bool → ℕ → ℕ → Cursor
@@ -274,82 +132,51 @@ opened Piece c little kind n = withRings false n little (fewerParts c)
 opened Part c little kind n = withRings true n little (fewerParts c)
 opened Member c little kind n = cond (eqb kind 3) (withRings true n little (popped c)) (cond (eqb kind 6) (withParts n (popped c)) (withMembers c n (popped c)))
 
--- A refusal for a code other than 0, else what follows.
-abbrev pub unless : ℕ → Cursor → Step → Step
-unless code c next = cond (eqb code 0) next (refusal code c)
-
+-- A geometry's header: its byte order is 0 or 1, its type may stand there, its count is within the limits.
 unfoldable pub geometryAt : List ℕ → Cursor → Step
 geometryAt s c =
-    let little : Bool = eqb (getD s (c .at) 0) 1 in
+    let order : ℕ = getD s (c .at) 0 in
+    let little : Bool = eqb order 1 in
     let kind : ℕ = wordAt little s (c .at + 1) in
     let count : ℕ = wordAt little s (c .at + 5) in
-    cond (remains s (c .at) 1)
-    (cond (ltb (getD s (c .at) 0) 2)
-    (cond (remains s (c .at) 5)
+    needing (remains s (c .at) 1) 1 c
+    (needing (ltb order 2) 2 c
+    (needing (remains s (c .at) 5) 1 c
     (unless (kindFault (slotOf c) c kind) c
-    (cond (remains s (c .at) 9)
-    (cond (countFits (slotOf c) count)
-    (Geometry kind count (opened (slotOf c) c little kind count))
-    (refusal 4 c))
-    (refusal 1 c)))
-    (refusal 1 c))
-    (refusal 2 c))
-    (refusal 1 c)
+    (needing (remains s (c .at) 9) 1 c
+    (needing (countFits (slotOf c) count) 4 c
+    (Geometry kind count (opened (slotOf c) c little kind count)))))))
 
--- ---- a ring's count, alone and then with the sheet's running total; a table piece's ring has 4 points, which don't count
+-- ---- a ring's count
+-- It is tested alone, then with the sheet's running total. A table piece's ring has 4 points, which don't count.
 unfoldable pub ringFits : Cursor → ℕ → Bool
 ringFits c n = cond (eqb (c .member) 1) (eqb n 4) (leb 4 n && leb n 4096 && leb (c .total + n) 4096)
 
+-- A ring is opened: one ring fewer is to come, and so many points.
 unfoldable pub withPoints : ℕ → Cursor → Cursor
-withPoints n c =
-    record {
-      at = c .at + 4;
-      member = c .member;
-      members = c .members;
-      header = c .header;
-      second = c .second;
-      third = c .third;
-      fourth = c .fourth;
-      parts = c .parts;
-      rings = c .rings - 1;
-      little = c .little;
-      points = n;
-      polygons = c .polygons;
-      total = cond (eqb (c .member) 1) (c .total) (c .total + n);
-    }
+withPoints n c = ringsToCome (c .rings - 1) (pointsToCome n (pointsCounted (cond (eqb (c .member) 1) (c .total) (c .total + n)) (moved 4 c)))
 
 unfoldable pub ringAt : List ℕ → Cursor → Step
 ringAt s c =
     let n : ℕ = wordAt (c .little) s (c .at) in
-    cond (remains s (c .at) 4) (cond (ringFits c n) (Ring n (withPoints n c)) (refusal 4 c)) (refusal 1 c)
+    needing (remains s (c .at) 4) 1 c
+    (needing (ringFits c n) 4 c
+    (Ring n (withPoints n c)))
 
--- ---- a point: two doubles, one field
+-- ---- a point: two doubles, one field of 16 bytes
+-- One point fewer is to come; the last one may complete the member.
 unfoldable pub afterPoint : Cursor → Cursor
-afterPoint c =
-    renewed (record {
-      at = c .at + 16;
-      member = c .member;
-      members = c .members;
-      header = c .header;
-      second = c .second;
-      third = c .third;
-      fourth = c .fourth;
-      parts = c .parts;
-      rings = c .rings;
-      little = c .little;
-      points = c .points - 1;
-      polygons = c .polygons;
-      total = c .total;
-    })
+afterPoint c = renewed (pointsToCome (c .points - 1) (moved 16 c))
 
 unfoldable pub pointAt : List ℕ → Cursor → Step
-pointAt s c = cond (remains s (c .at) 16) (Point (doubleAt (c .little) s (c .at)) (doubleAt (c .little) s (c .at + 8)) (afterPoint c)) (refusal 1 c)
+pointAt s c = needing (remains s (c .at) 16) 1 c (Point (doubleAt (c .little) s (c .at)) (doubleAt (c .little) s (c .at + 8)) (afterPoint c))
 
 -- ---- nothing more is to come: the end, or 7 where bytes are left; a place past the bytes answers 1
 unfoldable pub endAt : List ℕ → Cursor → Step
 endAt s c = cond (ltb (c .at) (length s)) (Refused 7 0 c) (cond (eqb (c .at) (length s)) (End c) (refusal 1 c))
 
 -- ---- a step
+-- A point of the open ring; else a ring of the open polygon; else the end, where nothing of the sheet is to come; else a geometry's header.
 unfoldable pub stepAt : List ℕ → Cursor → Step
 stepAt s c =
     cond (ltb 0 (c .points)) (pointAt s c)

@@ -17,20 +17,22 @@ use Rattle.whole.proofs.Int.{up, down, is-add}
 use Rattle.whole.proofs.Sums.{and-left, and-right, all-++, all-flatMap, every-all}
 use Rattle.plane.specs.Points.{Point, Triangle}
 use Rattle.plane.specs.Members.{Ring, Polygon, Member, edges, memberEdges}
-use Rattle.plane.specs.Corners.{millimetres, Held}
+use Rattle.plane.specs.Corners.{millimetres}
+use Rattle.plane.specs.Keys.{Held}
 use Rattle.sheet.specs.Numbers.{Sheet, pointNumbers, triangleNumbers, counted, ringNumbers, partNumbers, memberNumbers, numbersOf}
 use Rattle.sheet.specs.Reading.{readingOf}
 use Rattle.standard.specs.Limits.{ringLengths, lengths, allLengths}
 use Rattle.standard.proofs.Standard.{Reads, reads-some}
 use Rattle.written.specs.Fits.{inRange, pointFits, triangleFits, ringFits, partFits, memberFits, sheetFits}
 use Rattle.written.specs.Form.{sheetIn}
-use Rattle.written.specs.Held.{SheetHeld, sheet, refused, made, readSheet}
+use Rattle.written.specs.Held.{SheetHeld}
+use Rattle.written.specs.Reading.{sheet, refused, made, readSheet}
 use Rattle.written.proofs.Form.{form-is}
 use Rattle.written.proofs.Normal.{from-to, ring-tests, part-tests, member-tests, tests}
 use Rattle.written.proofs.Trip.{read-written}
 
 -- ---- numbers in range
-abbrev Small : ℤ → Type 0
+abbrev pub Small : ℤ → Type 0
 Small z = natAbs z ≤ 10_000_000
 
 -- A list of things, not too many of them, whose numbers are small.
@@ -68,7 +70,7 @@ member-small m t =
     let k = member-tests m t in
     counted-small partNumbers partFits part-small m (omega (arith, from-to 1 64 (length m) (k .0) .1)) (k .1)
 
-numbers-small : (n : Sheet) → T (sheetFits n) → All Small (numbersOf n)
+pub numbers-small : (n : Sheet) → T (sheetFits n) → All Small (numbersOf n)
 numbers-small n h =
     let k = tests n h in
     all-++ Small (counted triangleNumbers (n .table)) (counted memberNumbers (n .polygons))

@@ -19,8 +19,7 @@ use Rattle.coordinate.specs.Coordinate.{heldOf}
 use Rattle.coordinate.proofs.Meaning.{millimetres-held}
 use Rattle.wkb.specs.Standard.{Pair, Geometry, count}
 use Rattle.sheet.specs.Numbers.{Sheet}
-use Rattle.standard.specs.Limits.{wholeOf, numberOf, pointOf, ringOf, memberOf, membersOf, triangleOf, each, sheetOf, allLengths}
-use Rattle.standard.specs.Limits.{FromTo, IsCoordinate, RingFits, PolygonFits, PieceFits, PartFits, Each, MemberFits, SheetFits}
+use Rattle.standard.specs.Limits.{wholeOf, numberOf, pointOf, ringOf, memberOf, membersOf, triangleOf, each, sheetOf, allLengths, FromTo, IsCoordinate, RingFits, PolygonFits, PieceFits, PartFits, Each, MemberFits, SheetFits}
 use Rattle.written.specs.Fits.{fromTo, inRange, pointFits, triangleFits, origin, closed, ringFits, partFits, memberFits, sheetFits}
 use Rattle.written.specs.Normal.{patternOf, pairOf, pieceOf, partOf, geometries, memberTree, normal}
 use Rattle.written.proofs.Patterns.{pattern-eight, pattern-is}

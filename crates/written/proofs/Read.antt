@@ -15,7 +15,8 @@ use Rattle.whole.proofs.Int.{up, down, is-add}
 use Rattle.whole.proofs.Sums.{and-both, all-++, all-map, all-every, all-image}
 use Rattle.plane.specs.Points.{samePoint}
 use Rattle.plane.specs.Members.{Polygon}
-use Rattle.plane.specs.Corners.{millimetres, Held}
+use Rattle.plane.specs.Corners.{millimetres}
+use Rattle.plane.specs.Keys.{Held}
 use Rattle.plane.proofs.Points.{samePoint-refl}
 use Rattle.coordinate.proofs.Meaning.{coordinate-only}
 use Rattle.wkb.specs.Standard.{Pair, Geometry, ringed, holding, Geometries, none, _then_, count}

@@ -21,9 +21,13 @@ use Rattle.written.proofs.Encoded.{encode-bytes}
 use Rattle.written.proofs.Normal.{normal-fits, normal-sheet}
 use Rattle.written.proofs.Read.{read-fits}
 
+-- What is written is bytes.
+pub written-bytes : (n : Sheet) → All (λ b. b < 256) (written n)
+written-bytes n = encode-bytes (normal n)
+
 -- Reading the written bytes of any sheet within the limits answers the sheet.
 pub round-trip : (n : Sheet) → T (sheetFits n) → Reads (written n) n
-round-trip n h = reads-the-standard (written n) (encode-bytes (normal n)) n .1 (normal n, normal-fits n h, refl, normal-sheet n h)
+round-trip n h = reads-the-standard (written n) (written-bytes n) n .1 (normal n, normal-fits n h, refl, normal-sheet n h)
 
 -- Written bytes are one of the standard's encodings of the sheet.
 pub written-standard : (n : Sheet) → T (sheetFits n) → (g : Geometry) × SheetFits g × (encode g ≡ written n) × (sheetOf g ≡ n)

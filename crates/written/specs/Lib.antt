@@ -3,5 +3,6 @@ pub mod Form
 pub mod Fits
 pub mod Given
 pub mod Normal
+pub mod Reading
 pub mod Held
 pub mod Examples

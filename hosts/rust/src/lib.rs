@@ -19,7 +19,7 @@ extern "C" {
 /// Room that is always enough for the numbers form of a sheet.
 pub const NUMBERS_ROOM: usize = 65_800;
 /// Room that is always enough for a written sheet.
-pub const WRITE_ROOM: usize = 160_000;
+pub const WRITE_ROOM: usize = 158_290;
 /// Room that is always enough for the owner sets of a sheet.
 pub const OWNER_SETS_ROOM: usize = 8_192;
 /// Room that is always enough for the owners of a sheet.

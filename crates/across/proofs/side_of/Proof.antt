@@ -27,22 +27,22 @@ add-result : tie.Need-add-result
 add-result c = search needs
 
 returns : tie.Need-returns
-returns c codes few e =
+returns c =
     let s = c .before .before .before .before .before .before in
     let place = c .before .before .before .before .place in
-    side-found codes few (s .args .code) (now (s .args .index)) e (place .result) (place .ensures .0) (c .before .before .before .if1 .taken) (c .before .if2 .taken)
+    side-found (now (s .args .index)) (s .args .code) (s .pre .0) (place .result) (place .ensures .0) (c .before .before .before .if1 .taken) (c .before .if2 .taken)
 
 returns-2 : tie.Need-returns-2
-returns-2 c codes few e =
+returns-2 c =
     let s = c .before .before .before .before .before in
     let place = c .before .before .before .place in
-    side-other codes few (s .args .code) (now (s .args .index)) e (place .result) (place .ensures .0) (c .if2 .left)
+    side-other (now (s .args .index)) (s .args .code) (s .pre .0) (place .result) (place .ensures .0) (c .if2 .left)
 
 returns-3 : tie.Need-returns-3
-returns-3 c codes few e =
+returns-3 c =
     let s = c .before .before .before in
     let place = c .before .place in
-    side-past codes few (s .args .code) (now (s .args .index)) e (place .result) (place .ensures .0) (c .if1 .left)
+    side-past (now (s .args .index)) (s .args .code) (s .pre .0) (place .result) (place .ensures .0) (c .if1 .left)
 
 pub side-of-spec : {M : Type 1} → statement M
 side-of-spec =

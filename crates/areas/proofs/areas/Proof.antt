@@ -22,8 +22,8 @@ use Rattle.whole.proofs.Ring.{solve}
 use Rattle.whole.proofs.Sums.{all-++, all-at, map-++}
 use Rattle.plane.specs.declared.Corner.{Corner}
 use Rattle.plane.specs.Points.{double, turn}
-use Rattle.plane.specs.Corners.{millimetres, point, Held, InRange}
-use Rattle.plane.specs.Keys.{pointAt, cornerOf, Key}
+use Rattle.plane.specs.Corners.{millimetres}
+use Rattle.plane.specs.Keys.{point, Held, InRange, pointAt, cornerOf, Key}
 use Rattle.table.specs.Table.{RuleA}
 use Rattle.table.specs.Sides.{trianglesOf}
 use Rattle.table.proofs.Faults.{triangleAt, triangles-from, triangles-end}

@@ -13,8 +13,7 @@ use borrow.Author.Needs.{needs}
 use Rattle.whole.proofs.Bound.{returned}
 use Rattle.whole.proofs.Sums.{all-at}
 use Rattle.plane.specs.Points.{double}
-use Rattle.plane.specs.Corners.{InRange}
-use Rattle.plane.specs.Keys.{pointAt, Key}
+use Rattle.plane.specs.Keys.{InRange, pointAt, Key}
 use Rattle.table.proofs.Faults.{triangleAt, not-above, is-above, Above, above-none, above-more, flat-here, all-above}
 use Rattle.checking.proofs.flat_triangle.Statement.{statement}
 use Rattle.checking.proofs.flat_triangle.Tie as tie

@@ -6,8 +6,7 @@ use lib.ListN.{length, length-set}
 use denote.Ref.{now}
 use borrow.Author.Needs.{needs}
 use Rattle.whole.proofs.Sums.{all-at}
-use Rattle.plane.specs.Corners.{InRange}
-use Rattle.plane.specs.Keys.{Key}
+use Rattle.plane.specs.Keys.{InRange, Key}
 use Rattle.table.proofs.Bounds.{Bounds, bounds-last, bounds-more, stored-four, round}
 use Rattle.checking.proofs.frame_edges.Statement.{statement}
 use Rattle.checking.proofs.frame_edges.Tie as tie

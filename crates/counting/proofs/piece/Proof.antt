@@ -9,7 +9,7 @@ use denote.Ref.{now}
 use lib.Dec.{ltb}
 use lib.ListN.{length, getD}
 use Rattle.plane.specs.Keys.{pair}
-use Rattle.table.specs.Sides.{foundAt}
+use Rattle.table.specs.Opposites.{foundAt}
 use Rattle.counting.specs.Counting.{Tallied, added, directed}
 use Rattle.counting.proofs.Counted.{room, tallied-more, length-added, added-room}
 use Rattle.counting.proofs.Found.{found-within, stray-told, found-seen}

@@ -2,7 +2,8 @@
 use mathlib.Core.Path.{_≡_, sym, _∙_, ap}
 use native.Mathlib.Omega.{arith}
 use denote.Ref.{now}
-use Rattle.across.specs.Codes.{codeOf, numberIn}
+use Rattle.across.proofs.Numbered.{side-number}
+use Rattle.across.specs.Codes.{codeOf, sideIn, numberIn}
 use Rattle.counting.proofs.Found.{ranked, not-ranked}
 use borrow.Author.Needs.{needs}
 use Rattle.counting.proofs.side.Statement.{statement}
@@ -48,7 +49,7 @@ returns-3 c = λ sides l.
     let u = ranked (now (a .corners)) (a .u) (l .ascending) (λ e. c .before .before .before .before .if1 .left (c .before .before .before .before .before .rank .ensures ∙ e)) in
     let v = ranked (now (a .corners)) (a .v) (l .ascending) (λ e. c .before .before .if2 .left (c .before .before .before .rank2 .ensures ∙ e)) in
     let k : c .before .code .result ≡ codeOf (now (a .corners)) (a .u) (a .v) = omega (arith, c .before .code .ensures, c .before .before .before .before .before .rank .ensures, u .place, c .before .before .before .rank2 .ensures, v .place) in
-    c .side-of .ensures (l .codes) (omega (arith, l .few-codes)) (l .index-is) ∙ ap (λ z. numberIn z (l .codes)) k ∙ l .found (a .u) (a .v) (u .stands) (v .stands)
+    c .side-of .ensures ∙ ap (sideIn _) (l .index-is) ∙ side-number (l .codes) (omega (arith, l .few-codes)) _ ∙ ap (λ z. numberIn z (l .codes)) k ∙ l .found (a .u) (a .v) (u .stands) (v .stands)
 
 pub side-spec : {M : Type 1} → statement M
 side-spec =

@@ -3,7 +3,7 @@ use mathlib.Core.Path.{_∙_, ap₂}
 use lib.IntN.{_+ℤ_, _*ℤ_}
 use borrow.Author.Needs.{needs}
 use Rattle.whole.proofs.Bound.{returned}
-use Rattle.plane.specs.Corners.{point}
+use Rattle.plane.specs.Keys.{point}
 use Rattle.plane.proofs.Corners.{turn-products}
 use Rattle.exact.proofs.double_area.Statement.{statement}
 use Rattle.exact.proofs.double_area.Tie as tie

@@ -1,8 +1,7 @@
 -- `exact::on_way` meets its contract: the corners of the three numbers are handed to `strictly_between`. Assumes nothing.
 use mathlib.Core.Path.{sym, _∙_, subst}
 use borrow.Author.Needs.{needs}
-use Rattle.plane.specs.Corners.{InRange}
-use Rattle.plane.specs.Keys.{pointAt}
+use Rattle.plane.specs.Keys.{InRange, pointAt}
 use Rattle.exact.proofs.on_way.Statement.{statement}
 use Rattle.exact.proofs.on_way.Tie as tie
 

@@ -7,7 +7,7 @@ use mir.Val.{toZ, ofZ}
 use borrow.Author.Needs.{needs}
 use Rattle.whole.proofs.Bound.{returned}
 use Rattle.plane.specs.Points.{_⟶_, onward}
-use Rattle.plane.specs.Corners.{point}
+use Rattle.plane.specs.Keys.{point}
 use Rattle.plane.proofs.Points.{between-on, between-off}
 use Rattle.exact.proofs.strictly_between.Statement.{statement}
 use Rattle.exact.proofs.strictly_between.Tie as tie

@@ -4,7 +4,8 @@ use Prim.Native.Nat.{ℕ}
 use native.Mathlib.Omega.{arith}
 use borrow.Author.Needs.{needs}
 use Rattle.figures.specs.declared.Figure.{Figure}
-use Rattle.figures.specs.Figures.{Asked, counts, isGap, isOverlap}
+use Rattle.figures.specs.Figures.{Asked, counts}
+use Rattle.figures.specs.Standings.{isGap, isOverlap}
 use Rattle.figures.proofs.is_counted.Statement.{statement}
 use Rattle.figures.proofs.is_counted.Tie as tie
 

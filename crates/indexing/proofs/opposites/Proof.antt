@@ -8,8 +8,8 @@ use denote.Ref.{now}
 use lib.ListN.{length, getD, take, drop, length-set, drop-of-length-le}
 use Rattle.ascending.specs.Ascending.{Ascending}
 use Rattle.whole.proofs.Sums.{all-at}
-use Rattle.across.proofs.Numbered.{index-ascending}
-use Rattle.across.specs.Codes.{turned, numberIn, turnedIn}
+use Rattle.across.proofs.Numbered.{index-ascending, side-number}
+use Rattle.across.specs.Codes.{turned, sideIn, numberIn, turnedIn}
 use Rattle.table.proofs.Faults.{drop-next}
 use Rattle.indexing.proofs.Stored.{stored, all-stored}
 use Rattle.indexing.proofs.opposites.Statement.{statement}
@@ -67,7 +67,7 @@ loop-again c =
     let s = c .before .before .before .before .before .before .before .before in
     let codes = now (s .args .codes) in
     let f : ℕ → ℕ = λ x. numberIn (turned x) codes in
-    let v : c .side-of .result ≡ f (getD codes (l .i) 0) = c .side-of .ensures codes (omega (arith, s .pre .1)) (s .pre .2) in
+    let v : c .side-of .result ≡ f (getD codes (l .i) 0) = c .side-of .ensures ∙ ap (sideIn _) (s .pre .2) ∙ side-number codes (omega (arith, s .pre .1)) _ in
     let next : map f (drop (l .i) codes) ≡ c .side-of .result ∷ map f (drop (l .i + 1) codes)
     = ap (map f) (drop-next codes (l .i) (l .i + 1) (omega arith) (omega arith)) ∙ ap (λ w. w ∷ map f (drop (l .i + 1) codes)) (sym v) in (
       omega arith,

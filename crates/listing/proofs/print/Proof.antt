@@ -1,11 +1,12 @@
 -- `listing::print` meets its contract: a refusal is one line, a judged sheet goes on to its listing. Assumes nothing.
-use mathlib.Core.Path.{sym, _∙_, ap}
+use mathlib.Core.Path.{sym, subst}
 use Prim.Native.Nat.{_*_}
 use native.Mathlib.Omega.{arith}
 use borrow.Author.Needs.{needs}
 use denote.Ref.{now}
 use lib.Seq.{length-take-le}
 use Rattle.judged.proofs.Standing.{stands, refused-is, few}
+use Rattle.text.specs.Putting.{Put}
 use Rattle.listing.specs.Listing.{listing}
 use Rattle.listing.proofs.Sheet.{judged-held}
 use Rattle.listing.proofs.print.Statement.{statement}
@@ -74,8 +75,8 @@ put-judged-requires c κs = let w = stands (now (c .before .before .before .befo
 returns : tie.Need-returns
 returns c = (
   omega (arith, c .before .before .put-line .ensures .0),
-  c .before .before .put-line .ensures .1
-      ∙ ap listing (sym (refused-is (now (c .before .before .before .before .before .before .before .before .before .before .before .before .before .before .before .before .before .before .before .before .args .sheet)) (c .before .before .before .before .before .before .before .before .before .before .before .judged .result) (c .before .before .before .before .before .before .before .before .before .before .before .judged .last .1 .0) (c .before .before .before .before .before .before .before .before .before .before .before .judged .last .1 .1 .0) (c .before .before .before .before .before .before .before .before .before .before .before .judged .last .1 .1 .1 .0) (c .before .before .before .before .before .before .before .before .before .before .before .judged .ensures) (c .before .before .before .before .before .before .code .given .0 .0) (c .before .before .before .before .before .before .code .given .0 .1 .0) (c .before .before .before .before .before .before .code .given .1))),
+  subst (λ o. Put 0 (listing o) (now (c .before .before .before .before .before .before .before .before .before .before .before .before .before .before .before .before .before .before .before .before .args .text)) (c .before .before .put-line .result) (c .before .before .put-line .last .0)) (sym (refused-is (now (c .before .before .before .before .before .before .before .before .before .before .before .before .before .before .before .before .before .before .before .before .args .sheet)) (c .before .before .before .before .before .before .before .before .before .before .before .judged .result) (c .before .before .before .before .before .before .before .before .before .before .before .judged .last .1 .0) (c .before .before .before .before .before .before .before .before .before .before .before .judged .last .1 .1 .0) (c .before .before .before .before .before .before .before .before .before .before .before .judged .last .1 .1 .1 .0) (c .before .before .before .before .before .before .before .before .before .before .before .judged .ensures) (c .before .before .before .before .before .before .code .given .0 .0) (c .before .before .before .before .before .before .code .given .0 .1 .0) (c .before .before .before .before .before .before .code .given .1)))
+      (c .before .before .put-line .ensures .1),
 )
 
 same-length : tie.Need-same-length
@@ -85,7 +86,7 @@ same-length-2 : tie.Need-same-length-2
 same-length-2 c = search needs
 
 returns-2 : tie.Need-returns-2
-returns-2 c = let w = stands (now (c .before .before .before .before .before .before .before .before .before .before .before .before .before .before .before .before .before .before .before .before .before .before .args .sheet)) (c .before .before .before .before .before .before .before .before .before .before .before .before .before .judged .result) (c .before .before .before .before .before .before .before .before .before .before .before .before .before .judged .last .1 .0) (c .before .before .before .before .before .before .before .before .before .before .before .before .before .judged .last .1 .1 .0) (c .before .before .before .before .before .before .before .before .before .before .before .before .before .judged .last .1 .1 .1 .0) (c .before .before .before .before .before .before .before .before .before .before .before .before .before .judged .ensures) (c .before .before .before .before .before .before .before .before .n .given .0 .0) (c .before .before .before .before .before .before .before .before .n .given .1) in (c .before .before .put-judged .ensures .0, c .before .before .put-judged .ensures .1 (w .n) (judged-held w) ∙ ap listing (sym (w .comes)))
+returns-2 c = let w = stands (now (c .before .before .before .before .before .before .before .before .before .before .before .before .before .before .before .before .before .before .before .before .before .before .args .sheet)) (c .before .before .before .before .before .before .before .before .before .before .before .before .before .judged .result) (c .before .before .before .before .before .before .before .before .before .before .before .before .before .judged .last .1 .0) (c .before .before .before .before .before .before .before .before .before .before .before .before .before .judged .last .1 .1 .0) (c .before .before .before .before .before .before .before .before .before .before .before .before .before .judged .last .1 .1 .1 .0) (c .before .before .before .before .before .before .before .before .before .before .before .before .before .judged .ensures) (c .before .before .before .before .before .before .before .before .n .given .0 .0) (c .before .before .before .before .before .before .before .before .n .given .1) in (c .before .before .put-judged .ensures .0, subst (λ o. Put 0 (listing o) (now (c .before .before .before .before .before .before .before .before .before .before .before .before .before .before .before .before .before .before .before .before .before .before .args .text)) (c .before .before .put-judged .result) (c .before .before .put-judged .last .1 .1 .1 .0)) (sym (w .comes)) (c .before .before .put-judged .ensures .1 (w .n) (judged-held w)))
 
 pub print-spec : {M : Type 1} → statement M
 print-spec =

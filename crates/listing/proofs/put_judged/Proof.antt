@@ -7,6 +7,7 @@ use borrow.Author.Needs.{needs}
 use denote.Ref.{now}
 use lib.ListN.{length, getD, take, drop, length-append}
 use lib.Seq.{length-take-le, take-at}
+use Rattle.text.specs.Putting.{Put}
 use Rattle.printing.specs.Printing.{Figures, linesBy}
 use Rattle.listing.proofs.Sheet.{sets-many, few, few-polygons, pairs, polygons-at, figures, listing-is}
 use Rattle.listing.proofs.put_judged.Statement.{statement}
@@ -85,10 +86,11 @@ returns c = (
       let a : take (length s) (c .before .before .before .before .before .before .before .before .before .before .lay-areas .last .1 .0 ++ drop (length (now (c .before .before .before .before .before .before .before .before .before .before .before .before .before .before .before .before .before .before .before .args .sets))) (c .before .before .before .before .before .before .before .before .before .before .before .before .before .area-list .result)) ≡ c .before .before .before .before .before .before .before .before .before .before .lay-areas .last .1 .0 = take-at (c .before .before .before .before .before .before .before .before .before .before .lay-areas .last .1 .0) (drop (length (now (c .before .before .before .before .before .before .before .before .before .before .before .before .before .before .before .before .before .before .before .args .sets))) (c .before .before .before .before .before .before .before .before .before .before .before .before .before .area-list .result)) (length s) (c .before .before .before .before .before .before .before .before .before .before .lay-areas .kept .1 .0 ∙ length-take-le (length (now (c .before .before .before .before .before .before .before .before .before .before .before .before .before .before .before .before .before .before .before .args .sets))) (c .before .before .before .before .before .before .before .before .before .before .before .before .before .area-list .result) (omega (arith, few (c .before .before .before .before .before .before .before .before .before .before .before .before .before .before .before .before .before .before .before .pre .0 .1), c .before .before .before .before .before .before .before .before .before .before .before .before .before .area-list .ensures))) in
       let o : take (length s) (c .before .before .before .before .before .before .before .repair .last .1 .1 .0 ++ drop (length (now (c .before .before .before .before .before .before .before .before .before .before .before .before .before .before .before .before .before .before .before .args .sets))) (c .before .before .before .before .before .before .before .before .before .before .before .before .owner-list .result)) ≡ c .before .before .before .before .before .before .before .repair .last .1 .1 .0 = take-at (c .before .before .before .before .before .before .before .repair .last .1 .1 .0) (drop (length (now (c .before .before .before .before .before .before .before .before .before .before .before .before .before .before .before .before .before .before .before .args .sets))) (c .before .before .before .before .before .before .before .before .before .before .before .before .owner-list .result)) (length s) (c .before .before .before .before .before .before .before .repair .kept .1 .1 .0 ∙ length-take-le (length (now (c .before .before .before .before .before .before .before .before .before .before .before .before .before .before .before .before .before .before .before .args .sets))) (c .before .before .before .before .before .before .before .before .before .before .before .before .owner-list .result) (omega (arith, few (c .before .before .before .before .before .before .before .before .before .before .before .before .before .before .before .before .before .before .before .pre .0 .1), c .before .before .before .before .before .before .before .before .before .before .before .before .owner-list .ensures))) in
       let k = sets-many j ∙ sym (length-take-le (length s) (c .before .before .before .before .before .before .before .before .before .before .before .before .before .area-list .result) (omega (arith, few p, c .before .before .before .before .before .before .before .before .before .before .before .before .before .area-list .ensures))) in
-      c .before .before .put-lines .ensures .1
-      ∙ ap₂ (λ x y. linesBy (c .before .before .before .before .before .before .before .repair .result) (getD (now (c .before .before .before .before .before .before .before .before .before .before .before .before .before .before .before .before .before .before .before .args .numbers)) (1 + 6 * length s) 0 - 10000000) s x y) o a
+      subst (λ lines. Put 0 lines (now (c .before .before .before .before .before .before .before .before .before .before .before .before .before .before .before .before .before .before .before .args .text)) (c .before .before .put-lines .result) (c .before .before .put-lines .last .0))
+      (ap₂ (λ x y. linesBy (c .before .before .before .before .before .before .before .repair .result) (getD (now (c .before .before .before .before .before .before .before .before .before .before .before .before .before .before .before .before .before .before .before .args .numbers)) (1 + 6 * length s) 0 - 10000000) s x y) o a
       ∙ ap (λ m. linesBy (c .before .before .before .before .before .before .before .repair .result) m s (c .before .before .before .before .before .before .before .repair .last .1 .1 .0) (c .before .before .before .before .before .before .before .before .before .before .lay-areas .last .1 .0)) m
-      ∙ listing-is j (c .before .before .before .before .before .before .before .repair .last .1 .1 .0) (c .before .before .before .before .before .before .before .before .before .before .lay-areas .ensures n (now (c .before .before .before .before .before .before .before .before .before .before .before .before .before .before .before .before .before .before .before .args .opposite)) s j k) (c .before .before .before .before .before .before .before .repair .kept .1 .1 .0 ∙ length-take-le (length (now (c .before .before .before .before .before .before .before .before .before .before .before .before .before .before .before .before .before .before .before .args .sets))) (c .before .before .before .before .before .before .before .before .before .before .before .before .owner-list .result) (omega (arith, few (c .before .before .before .before .before .before .before .before .before .before .before .before .before .before .before .before .before .before .before .pre .0 .1), c .before .before .before .before .before .before .before .before .before .before .before .before .owner-list .ensures))) (c .before .before .before .before .before .before .before .repair .result) (c .before .before .before .before .before .before .before .repair .ensures),
+      ∙ listing-is j (c .before .before .before .before .before .before .before .repair .last .1 .1 .0) (c .before .before .before .before .before .before .before .before .before .before .lay-areas .ensures n (now (c .before .before .before .before .before .before .before .before .before .before .before .before .before .before .before .before .before .before .before .args .opposite)) s j k) (c .before .before .before .before .before .before .before .repair .kept .1 .1 .0 ∙ length-take-le (length (now (c .before .before .before .before .before .before .before .before .before .before .before .before .before .before .before .before .before .before .before .args .sets))) (c .before .before .before .before .before .before .before .before .before .before .before .before .owner-list .result) (omega (arith, few (c .before .before .before .before .before .before .before .before .before .before .before .before .before .before .before .before .before .before .before .pre .0 .1), c .before .before .before .before .before .before .before .before .before .before .before .before .owner-list .ensures))) (c .before .before .before .before .before .before .before .repair .result) (c .before .before .before .before .before .before .before .repair .ensures))
+      (c .before .before .put-lines .ensures .1),
 )
 
 pub put-judged-spec : {M : Type 1} → statement M

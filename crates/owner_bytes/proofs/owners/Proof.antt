@@ -10,7 +10,8 @@ use lib.Seq.{length-take-le}
 use Rattle.whole.specs.Sums.{All}
 use Rattle.lent.proofs.Answered.{answered-refusal, answered-short, answered-bytes}
 use Rattle.lent.specs.Answered.{Answered}
-use Rattle.answers.specs.Answers.{numbersAfter, ownersOutcome}
+use Rattle.answers.specs.Answers.{numbersAfter}
+use Rattle.answers.specs.Held.{ownersOutcome}
 use Rattle.answers.proofs.After.{not-repaired, goes-on, as-many, small, room, front}
 use Rattle.owner_bytes.proofs.owners.Statement.{statement}
 use Rattle.owner_bytes.proofs.owners.Tie as tie

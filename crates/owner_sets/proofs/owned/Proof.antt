@@ -8,14 +8,14 @@ use lib.ListN.{length}
 use lib.Seq.{length-take-le}
 use Rattle.table.specs.Table.{passed, checkTable}
 use Rattle.plane.specs.Boundaries.{sidesOf}
-use Rattle.table.specs.Sides.{trianglesOf, opposites}
+use Rattle.table.specs.Sides.{trianglesOf}
+use Rattle.table.specs.Opposites.{opposites}
 use Rattle.table.proofs.Rules.{passes}
 use Rattle.sheet.specs.Numbers.{counted, memberNumbers}
 use Rattle.checking.specs.Checking.{checkedOf}
 use Rattle.owner_sets.specs.Owning.{OneEach}
 use Rattle.owner_sets.proofs.Checking.{owners-refused, owners-passed}
 use Rattle.owner_sets.proofs.Standing.{crossed-all}
-use borrow.Author.Needs.{needs}
 use Rattle.owner_sets.proofs.owned.Statement.{statement}
 use Rattle.owner_sets.proofs.owned.Tie as tie
 

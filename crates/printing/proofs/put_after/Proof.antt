@@ -1,18 +1,18 @@
 -- `printing::put_after` meets its contract, by whether repair was done. Assumes nothing.
-use mathlib.Core.Path.{_≡_, sym, ap, _∙_}
+use mathlib.Core.Path.{_≡_, sym, subst}
 use mathlib.Core.Bool.{Bool}
-use mathlib.Core.List.{List, _++_}
+use mathlib.Core.List.{List}
 use Prim.Native.Nat.{ℕ}
 use native.Mathlib.Omega.{arith}
 use borrow.Author.Needs.{needs}
 use denote.Ref.{now}
-use lib.ListN.{take}
+use Rattle.text.specs.Putting.{Put}
 use Rattle.printing.specs.Printing.{afterBy}
 use Rattle.printing.proofs.put_after.Statement.{statement}
 use Rattle.printing.proofs.put_after.Tie as tie
 
-by-flag : {r : List ℕ} {done b : Bool} (q : List ℕ) (polygons : ℕ) (l owners areas : List ℕ) → done ≡ b → r ≡ q ++ afterBy b polygons l owners areas → r ≡ q ++ afterBy done polygons l owners areas
-by-flag q polygons l owners areas e h = h ∙ ap (λ b. q ++ afterBy b polygons l owners areas) (sym e)
+by-flag : {done b : Bool} {at r : ℕ} {before after : List ℕ} (polygons : ℕ) (l owners areas : List ℕ) → done ≡ b → Put at (afterBy b polygons l owners areas) before r after → Put at (afterBy done polygons l owners areas) before r after
+by-flag {at = at} {r = r} {before = before} {after = after} polygons l owners areas e h = subst (λ b. Put at (afterBy b polygons l owners areas) before r after) (sym e) h
 
 slice-aggregate-put-polygons : tie.Need-slice-aggregate-put-polygons
 slice-aggregate-put-polygons c = search needs
@@ -27,7 +27,7 @@ returns : tie.Need-returns
 returns c =
     let a = c .before .before .before .before .before .before .before .before .before .before .args in
     let p = c .before .before .put-polygons .ensures in
-    (omega (arith, p .0), by-flag (take (a .at) (now (a .text))) (a .polygons) (now (a .sets)) (now (a .owners)) (now (a .areas)) (c .before .before .before .before .before .if1 .taken) (p .1))
+    (omega (arith, p .0), by-flag (a .polygons) (now (a .sets)) (now (a .owners)) (now (a .areas)) (c .before .before .before .before .before .if1 .taken) (p .1))
 
 slice-aggregate-put-line : tie.Need-slice-aggregate-put-line
 slice-aggregate-put-line c = search needs
@@ -42,7 +42,7 @@ returns-2 : tie.Need-returns-2
 returns-2 c =
     let a = c .before .before .before .before .before .before .before .before .before .before .args in
     let p = c .before .before .put-line .ensures in
-    (omega (arith, p .0), by-flag (take (a .at) (now (a .text))) (a .polygons) (now (a .sets)) (now (a .owners)) (now (a .areas)) (c .before .before .before .before .before .if1 .left) (p .1))
+    (omega (arith, p .0), by-flag (a .polygons) (now (a .sets)) (now (a .owners)) (now (a .areas)) (c .before .before .before .before .before .if1 .left) (p .1))
 
 pub put-after-spec : {M : Type 1} → statement M
 put-after-spec =

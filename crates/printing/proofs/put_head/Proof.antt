@@ -1,5 +1,5 @@
 -- `printing::put_head` meets its contract: each line stands behind those before it. Assumes nothing.
-use mathlib.Core.Path.{_≡_, refl, sym, ap, _∙_}
+use mathlib.Core.Path.{_≡_, sym, ap, _∙_}
 use mathlib.Core.Bool.{false, cond}
 use mathlib.Core.List.{List, map, _++_}
 use Prim.Native.Nat.{ℕ, _+_, _≤_}
@@ -8,10 +8,12 @@ use borrow.Author.Needs.{needs}
 use borrow.Author.Tests.{eq-eqb, ne-eqb}
 use denote.Ref.{now}
 use lib.IntN.{pos}
-use lib.ListN.{length, take}
+use lib.ListN.{length}
 use Rattle.table.specs.Sets.{chosen}
 use Rattle.regions.specs.Regions.{from}
 use Rattle.text.specs.Text.{lineOf}
+use Rattle.text.specs.Putting.{Put}
+use Rattle.text.proofs.Texts.{put-behind}
 use Rattle.figures.specs.declared.Figure.{Figure}
 use Rattle.figures.specs.declared.Figure.the-variants.{Gaps, Overlaps}
 use Rattle.figures.specs.Figures.{marksOf, total}
@@ -44,13 +46,10 @@ module _ (l owners areas : List ℕ) where
   abbrev toOverlaps : ℕ → List ℕ
   toOverlaps polygons = toGaps polygons ++ lineBy overlapWord Overlaps l owners areas
 
-  polygons-behind : {p r : List ℕ} (polygons : ℕ) → p ≡ lineOf sheetWord (pos (length areas)) (pos polygons) → r ≡ p ++ polygonLines polygons → r ≡ toPolygons polygons
-  polygons-behind polygons e h = behind e refl h
-
-  -- A figure's line, put behind what stands.
-  figure-line : {p q r : List ℕ} {n d : ℕ} (word : List ℕ) (figure : Figure) → p ≡ q → n ≡ many figure → d ≡ total (chosen areas (marksOf figure l owners))
-      → r ≡ p ++ lineOf word (pos n) (pos d) → r ≡ q ++ lineBy word figure l owners areas
-  figure-line word figure e f g h = behind e (λ i. lineOf word (pos (f i)) (pos (g i))) h
+  -- A figure's line, put behind what was put.
+  figure-line : {n d r k : ℕ} {put before between after : List ℕ} (word : List ℕ) (figure : Figure) → Put 0 put before r between
+      → n ≡ many figure → d ≡ total (chosen areas (marksOf figure l owners)) → Put r (lineOf word (pos n) (pos d)) between k after → Put 0 (put ++ lineBy word figure l owners areas) before k after
+  figure-line word figure p e f q = behind (omega arith) p (λ i. lineOf word (pos (e i)) (pos (f i))) q
 
   clean : {n m : ℕ} → n ≡ many Gaps → m ≡ many Overlaps → n + m ≡ 0 → cleanLine ≡ verdictBy l owners areas
   clean e f h = sym (ap (λ b. cond b cleanLine repairLine) (eq-eqb (many Gaps + many Overlaps) 0 (omega arith)))
@@ -61,8 +60,8 @@ module _ (l owners areas : List ℕ) where
 -- ---- what stands after each call
 gaps-stand : (c : tie.After-slice-known4)
     → (c .before .before .put-line2 .result ≤ 3294) × (length (c .before .before .put-line2 .last .0) ≡ length (now (c .before .before .before .before .before .before .before .before .before .before .before .before .before .before .before .before .before .before .before .before .args .text)))
-    × (take (c .before .before .put-line2 .result) (c .before .before .put-line2 .last .0)
-    ≡ toGaps (now (c .before .before .before .before .before .before .before .before .before .before .before .before .before .before .before .before .before .before .before .before .args .sets)) (now (c .before .before .before .before .before .before .before .before .before .before .before .before .before .before .before .before .before .before .before .before .args .owners)) (now (c .before .before .before .before .before .before .before .before .before .before .before .before .before .before .before .before .before .before .before .before .args .areas)) (c .before .before .before .before .before .before .before .before .before .before .before .before .before .before .before .before .before .before .before .before .args .polygons))
+    × Put 0 (toGaps (now (c .before .before .before .before .before .before .before .before .before .before .before .before .before .before .before .before .before .before .before .before .args .sets)) (now (c .before .before .before .before .before .before .before .before .before .before .before .before .before .before .before .before .before .before .before .before .args .owners)) (now (c .before .before .before .before .before .before .before .before .before .before .before .before .before .before .before .before .before .before .before .before .args .areas)) (c .before .before .before .before .before .before .before .before .before .before .before .before .before .before .before .before .before .before .before .before .args .polygons))
+    (now (c .before .before .before .before .before .before .before .before .before .before .before .before .before .before .before .before .before .before .before .before .args .text)) (c .before .before .put-line2 .result) (c .before .before .put-line2 .last .0)
 gaps-stand c =
     let a = c .before .before .before .before .before .before .before .before .before .before .before .before .before .before .before .before .before .before .before .before .args in
     let s = c .before .before .before .before .before .before .before .before .before .before .before .before .before .put-line in
@@ -72,13 +71,13 @@ gaps-stand c =
       omega (arith, c .before .before .before .before .before .before .before .before .before .before .before .before .before .before .before .before .before .before .before .before .pre .1, s .ensures .0, p .ensures .0, g .ensures .0),
       g .kept .0 ∙ p .kept .0 ∙ s .kept .0,
       figure-line (now (a .sets)) (now (a .owners)) (now (a .areas)) gapWord Gaps
-          (polygons-behind (now (a .sets)) (now (a .owners)) (now (a .areas)) (a .polygons) (s .ensures .1) (p .ensures .1)) (t .0) (t .1) (g .ensures .1),
+          (put-behind (omega arith) (s .ensures .1) (p .ensures .1)) (t .0) (t .1) (g .ensures .1),
     )
 
 overlaps-stand : (c : tie.After-slice-known5)
     → (c .before .before .put-line3 .result ≤ 3344) × (length (c .before .before .put-line3 .last .0) ≡ length (now (c .before .before .before .before .before .before .before .before .before .before .before .before .before .before .before .before .before .before .before .before .before .before .before .before .before .before .args .text)))
-    × (take (c .before .before .put-line3 .result) (c .before .before .put-line3 .last .0)
-    ≡ toOverlaps (now (c .before .before .before .before .before .before .before .before .before .before .before .before .before .before .before .before .before .before .before .before .before .before .before .before .before .before .args .sets)) (now (c .before .before .before .before .before .before .before .before .before .before .before .before .before .before .before .before .before .before .before .before .before .before .before .before .before .before .args .owners)) (now (c .before .before .before .before .before .before .before .before .before .before .before .before .before .before .before .before .before .before .before .before .before .before .before .before .before .before .args .areas)) (c .before .before .before .before .before .before .before .before .before .before .before .before .before .before .before .before .before .before .before .before .before .before .before .before .before .before .args .polygons))
+    × Put 0 (toOverlaps (now (c .before .before .before .before .before .before .before .before .before .before .before .before .before .before .before .before .before .before .before .before .before .before .before .before .before .before .args .sets)) (now (c .before .before .before .before .before .before .before .before .before .before .before .before .before .before .before .before .before .before .before .before .before .before .before .before .before .before .args .owners)) (now (c .before .before .before .before .before .before .before .before .before .before .before .before .before .before .before .before .before .before .before .before .before .before .before .before .before .before .args .areas)) (c .before .before .before .before .before .before .before .before .before .before .before .before .before .before .before .before .before .before .before .before .before .before .before .before .before .before .args .polygons))
+    (now (c .before .before .before .before .before .before .before .before .before .before .before .before .before .before .before .before .before .before .before .before .before .before .before .before .before .before .args .text)) (c .before .before .put-line3 .result) (c .before .before .put-line3 .last .0)
 overlaps-stand c =
     let a = c .before .before .before .before .before .before .before .before .before .before .before .before .before .before .before .before .before .before .before .before .before .before .before .before .before .before .args in
     let g = gaps-stand (c .before .before .before .before .before .before) in
@@ -139,7 +138,7 @@ returns c =
     let a = c .before .before .before .before .before .before .before .before .before .before .before .before .before .before .before .before .before .before .before .before .before .before .before .before .before .before .before .before .before .before .before .before .before .before .args in
     let o = overlaps-stand (c .before .before .before .before .before .before .before .before) in
     let v = c .before .before .put-word .ensures in
-    (omega (arith, o .0, v .0), behind (o .2) (clean (now (a .sets)) (now (a .owners)) (now (a .areas)) (c .before .before .before .before .before .before .before .before .before .before .before .before .before .before .before .before .before .before .before .tally .ensures .0) (c .before .before .before .before .before .before .before .before .before .before .before .before .before .tally2 .ensures .0) (c .before .before .before .before .before .if1 .taken)) (v .1))
+    (omega (arith, o .0, v .place), behind (omega arith) (o .2) (clean (now (a .sets)) (now (a .owners)) (now (a .areas)) (c .before .before .before .before .before .before .before .before .before .before .before .before .before .before .before .before .before .before .before .tally .ensures .0) (c .before .before .before .before .before .before .before .before .before .before .before .before .before .tally2 .ensures .0) (c .before .before .before .before .before .if1 .taken)) v)
 
 slice-aggregate-put-word-2 : tie.Need-slice-aggregate-put-word-2
 slice-aggregate-put-word-2 c = search needs
@@ -155,7 +154,7 @@ returns-2 c =
     let a = c .before .before .before .before .before .before .before .before .before .before .before .before .before .before .before .before .before .before .before .before .before .before .before .before .before .before .before .before .before .before .before .before .before .before .args in
     let o = overlaps-stand (c .before .before .before .before .before .before .before .before) in
     let v = c .before .before .put-word2 .ensures in
-    (omega (arith, o .0, v .0), behind (o .2) (unclean (now (a .sets)) (now (a .owners)) (now (a .areas)) (c .before .before .before .before .before .before .before .before .before .before .before .before .before .before .before .before .before .before .before .tally .ensures .0) (c .before .before .before .before .before .before .before .before .before .before .before .before .before .tally2 .ensures .0) (c .before .before .before .before .before .if1 .left)) (v .1))
+    (omega (arith, o .0, v .place), behind (omega arith) (o .2) (unclean (now (a .sets)) (now (a .owners)) (now (a .areas)) (c .before .before .before .before .before .before .before .before .before .before .before .before .before .before .before .before .before .before .before .tally .ensures .0) (c .before .before .before .before .before .before .before .before .before .before .before .before .before .tally2 .ensures .0) (c .before .before .before .before .before .if1 .left)) v)
 
 pub put-head-spec : {M : Type 1} → statement M
 put-head-spec =

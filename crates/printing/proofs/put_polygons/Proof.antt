@@ -1,14 +1,16 @@
--- `printing::put_polygons` meets its contract. The invariant: the lines of the first k polygons stand behind what stood before `at`. Assumes nothing.
+-- `printing::put_polygons` meets its contract. The invariant: the lines of the first k polygons are put behind the first `at` bytes. Assumes nothing.
 use mathlib.Core.Path.{_≡_, refl, sym, ap, subst, _∙_}
 use mathlib.Core.Logic.{⊎-elim}
 use mathlib.Core.Bool.{Bool, true, false}
-use mathlib.Core.List.{List, _++_, append-nil}
+use mathlib.Core.List.{List}
 use Prim.Native.Nat.{ℕ, _+_, _-_, _*_, _≤_}
 use native.Mathlib.Omega.{arith}
 use denote.Ref.{now}
 use lib.IntN.{pos}
-use lib.ListN.{length, take}
+use lib.ListN.{length}
 use Rattle.table.specs.Sets.{chosen}
+use Rattle.text.specs.Putting.{Put}
+use Rattle.text.proofs.Texts.{nothing-put}
 use Rattle.figures.specs.declared.Figure.{Figure}
 use Rattle.figures.specs.Figures.{Asked, marksOf, total}
 use Rattle.printing.specs.Printing.{figureOf, areaBy}
@@ -18,7 +20,7 @@ use Rattle.printing.proofs.put_polygons.Tie as tie
 
 abbrev Inv-loop : tie.InvT-loop
 Inv-loop text₀ at word after polygons sets owners areas here₀ k₀ text here k =
-    (k ≤ polygons) × (here ≤ at + 50 * k) × (length text ≡ length text₀) × (take here text ≡ take at text₀ ++ lines word (areaBy after sets owners areas) 1 k)
+    (k ≤ polygons) × (here ≤ at + 50 * k) × (length text ≡ length text₀) × Put at (lines word (areaBy after sets owners areas) 1 k) text₀ here text
 
 abbrev μ-loop : tie.MeasureT-loop
 μ-loop text₀ at word after polygons sets owners areas here₀ k₀ text here k = polygons - k
@@ -26,7 +28,7 @@ abbrev μ-loop : tie.MeasureT-loop
 loop-holds : tie.Need-loop-holds Inv-loop μ-loop
 loop-holds c =
     let a = c .before .before .before .before .before .args in
-    (omega arith, omega arith, refl, sym (append-nil (take (a .at) (now (a .text)))))
+    (omega arith, omega arith, refl, nothing-put (now (a .text)) (a .at))
 
 add-k : tie.Need-add-k Inv-loop μ-loop
 add-k c = omega arith
@@ -69,7 +71,7 @@ loop-again c =
       omega arith,
       omega (arith, p .ensures .0),
       p .kept .0 ∙ l .inv .2,
-      line-behind (now (a .word)) area (take (a .at) (now (a .text))) (l .k) (l .inv .3) d (p .ensures .1),
+      line-behind (now (a .word)) area (l .k) (omega arith) (l .inv .3) d (p .ensures .1),
     )
 
 same-length : tie.Need-same-length Inv-loop μ-loop
@@ -79,7 +81,7 @@ returns : tie.Need-returns Inv-loop μ-loop
 returns c =
     let a = c .before .before .before .before .before .before .before .args in
     let e : c .before .loop .k ≡ a .polygons = omega arith in
-    (omega arith, c .before .loop .inv .3 ∙ ap (λ k. take (a .at) (now (a .text)) ++ lines (now (a .word)) (areaBy (a .after) (now (a .sets)) (now (a .owners)) (now (a .areas))) 1 k) e)
+    (omega arith, subst (λ k. Put (a .at) (lines (now (a .word)) (areaBy (a .after) (now (a .sets)) (now (a .owners)) (now (a .areas))) 1 k) (now (a .text)) (c .before .loop .here) (c .before .loop .text)) e (c .before .loop .inv .3))
 
 pub put-polygons-spec : {M : Type 1} → statement M
 put-polygons-spec =

@@ -1,4 +1,4 @@
--- `repair::repair` meets its contract: the settled numbers stand at the front of the work list, and in the owners. Assumes nothing.
+-- `repair::repair` meets its contract: the settled numbers stand at the front of the work list and, where there is an owner at all, in the owners. Assumes nothing.
 use mathlib.Core.Path.{sym, _∙_, ap, subst}
 use mathlib.Core.Bool.{false}
 use native.Mathlib.Omega.{arith}
@@ -33,31 +33,28 @@ settle-requires c κs =
     let n = c .before .before .before in
     sym (length-take-le _ _ (omega (arith, n .before .before .before .before .pre .2, n .number-list .ensures)))
 
-settle-requires-2 : tie.Need-settle-requires-2
-settle-requires-2 c κs = search needs
-
 array-share-prefix-numbers : tie.Need-array-share-prefix-numbers
 array-share-prefix-numbers c =
-    let k = c .before .before .before .before .before in
+    let k = c .before in
     laid-room (now (k .before .before .before .before .before .before .before .before .args .sets)) _ _ (k .settle .ensures)
 
 slice-aggregate-none-owned : tie.Need-slice-aggregate-none-owned
 slice-aggregate-none-owned c =
-    let k = c .before .before .before .before .before .before in
+    let k = c .before .before in
     sym (length-front (now (k .before .before .before .before .before .before .before .before .args .sets)) _ _ (k .settle .ensures))
 
 none-owned-requires : tie.Need-none-owned-requires
 none-owned-requires c κs = search needs
 
-same-length : tie.Need-same-length
-same-length c = search needs
-
 returns : tie.Need-returns
 returns c =
-    let k = c .before .before .before .before .before .before .before .before in
+    let k = c .before .before .before .before in
     let a = k .before .before .before .before .before .before .before .before .args in
     let front = laid-front (now (a .sets)) _ _ (k .settle .ensures) in
     repaired-none (now (a .opposite)) (now (a .sets)) front (sym (c .before .none-owned .ensures) ∙ c .if1 .taken)
+
+settle-requires-2 : tie.Need-settle-requires-2
+settle-requires-2 c κs = search needs
 
 array-share-prefix-numbers-2 : tie.Need-array-share-prefix-numbers-2
 array-share-prefix-numbers-2 c =
@@ -92,7 +89,7 @@ give-all-requires c κs =
     let n = length (now (s .args .sets)) in
     let marks = k .before .before .before .mark-list .ensures in
     let room = k .before .before .number-list2 .ensures in
-    let laid = c .before .before .before .before .before .before .before .before .before .settle2 .ensures in
+    let laid = c .before .before .before .before .before .before .settle2 .ensures in
     let long = length-front (now (s .args .sets)) _ _ (k .settle .ensures) in (
       subst (Paired (now (s .args .opposite))) (sym long) (s .pre .0),
       ap (take n) marks ∙ unmarked-front n 1024 (s .pre .2) ∙ ap (λ k. replicate k false) (sym long),
@@ -100,13 +97,13 @@ give-all-requires c κs =
       laid ∙ sym (laid-front (now (s .args .sets)) _ _ (k .settle .ensures)),
     )
 
-same-length-2 : tie.Need-same-length-2
-same-length-2 c = search needs
+same-length : tie.Need-same-length
+same-length c = search needs
 
 returns-2 : tie.Need-returns-2
 returns-2 c =
-    let o = c .before .before .before .before .before .before .before .before .before in
-    let k = o .before .before .before .before .before .before .before .before in
+    let o = c .before .before .before .before .before .before .before .before .before .before .before .before .before in
+    let k = o .before .before .before .before in
     let a = k .before .before .before .before .before .before .before .before .args in
     let front = laid-front (now (a .sets)) _ _ (k .settle .ensures) in
     repaired-all (now (a .opposite)) (now (a .sets)) front (sym (o .before .none-owned .ensures) ∙ o .if1 .left) (c .before .before .before .before .give-all .ensures)
@@ -121,12 +118,11 @@ repair-spec =
     array-borrow-prefix-numbers
     slice-aggregate-settle
     settle-requires
-    settle-requires-2
     array-share-prefix-numbers
     slice-aggregate-none-owned
     none-owned-requires
-    same-length
     returns
+    settle-requires-2
     array-share-prefix-numbers-2
     slice-aggregate-give-all
     array-borrow-prefix-met
@@ -134,5 +130,5 @@ repair-spec =
     array-borrow-prefix-group
     slice-aggregate-give-all-3
     give-all-requires
-    same-length-2
+    same-length
     returns-2)

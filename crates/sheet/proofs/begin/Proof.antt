@@ -1,6 +1,7 @@
 -- `sheet::begin` meets its contract: the number of the member's polygons will stand where the next number goes. Assumes nothing.
 use lib.ListN.{length}
 use borrow.Author.Needs.{needs}
+use Rattle.sheet.specs.Reading.{marked}
 use Rattle.sheet.proofs.begin.Statement.{statement}
 use Rattle.sheet.proofs.begin.Tie as tie
 
@@ -14,7 +15,7 @@ returns : tie.Need-returns
 returns c =
     let p = c .before .before .push .ensures in (
       p .0,
-      λ t out h. p .1 (record { numbers = t .numbers; mark = length (t .numbers); first = t .first; x = t .x; y = t .y }) out
+      λ t out h. p .1 (marked (length (t .numbers)) t) out
           (record { fill = h .fill; laid-over = h .laid-over; mark = h .fill; first = h .first; x = h .x; y = h .y }),
     )
 

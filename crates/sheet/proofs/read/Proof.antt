@@ -1,65 +1,84 @@
--- `sheet::read` meets its contract. The invariant: reading on from where the loop stands is the reading of the sheet. The measure is what
--- is left of the bytes. Assumes nothing.
-use mathlib.Core.Path.{_≡_, refl}
-use Prim.Native.Nat.{_-_}
+-- `sheet::read` meets its contract. The sheet is one geometry, with five levels inside; behind it nothing of the sheet is to come, so the step is
+-- the end or 7. Assumes nothing.
+use mathlib.Core.Path.{sym, _∙_, subst}
+use mathlib.Core.List.{List}
+use Prim.Native.Nat.{ℕ}
 use native.Mathlib.Omega.{arith}
 use borrow.Author.Needs.{needs}
-use lib.ListN.{length}
-use Rattle.sheet.specs.Going.{Within}
-use Rattle.sheet.proofs.Onward.{Trail, follow, follow-over, went-on, was-over}
-use Rattle.sheet.proofs.Finish.{begun, finish, ends-sheet, ends-refused}
+use denote.Ref.{now}
+use Rattle.wkb.specs.declared.Cursor.{Cursor}
+use Rattle.wkb.specs.Steps.{start, stepAt}
+use Rattle.sheet.specs.declared.Build.{Build}
+use Rattle.sheet.specs.Behind.{Past}
+use Rattle.sheet.proofs.Onward.{Trail, went-on, was-over}
+use Rattle.sheet.proofs.Finish.{empty, begun, sheet-stands, Last, last-step, not-the-end, ends-sheet, ends-seven, ends-refused}
 use Rattle.sheet.proofs.read.Statement.{statement}
 use Rattle.sheet.proofs.read.Tie as tie
 
-abbrev Inv-loop : tie.InvT-loop
-Inv-loop s numbers₀ c₀ b₀ numbers c b = Within s c b × (length numbers ≡ length numbers₀) × Trail s c₀ b₀ numbers₀ c b numbers
+-- The step behind the sheet.
+module _ (d : tie.After-step) where
+  abbrev S : List ℕ
+  S = now (d .before .before .before .before .before .before .before .before .before .before .args .s)
 
-abbrev μ-loop : tie.MeasureT-loop
-μ-loop s numbers₀ c₀ b₀ numbers c b = length s - c .at
+  abbrev C : Cursor
+  C = d .before .before .t .given .0 .0
 
-loop-holds : tie.Need-loop-holds Inv-loop μ-loop
-loop-holds c = (begun _ _ refl, refl, record { leads = λ t out h. (t, h, refl) })
+  abbrev B : Build
+  B = d .before .before .t .given .0 .1 .0
 
-geometry-requires : tie.Need-geometry-requires Inv-loop μ-loop
-geometry-requires c κs = c .before .loop .inv .0
+  trail : Trail S start empty (now (d .before .before .before .before .before .before .before .before .before .before .args .numbers)) C B (d .before .before .before .before .before .before .geometry .last .1 .1 .1 .1 .0)
+  trail = went-on _ _ _ _ _ _ _ (d .before .before .before .before .before .before .geometry .ensures .0) _ _ (d .before .before .t .given .1) .2
 
-enum-known-t : tie.Need-enum-known-t Inv-loop μ-loop
+  last : Last (stepAt S C)
+  last =
+      last-step S C (subst (Past start) (d .before .before .t .given .1) (d .before .before .before .before .before .before .geometry .ensures .1))
+      (went-on _ _ _ _ _ _ _ (d .before .before .before .before .before .before .geometry .ensures .0) _ _ (d .before .before .t .given .1) .0 .inside)
+
+geometry-requires : tie.Need-geometry-requires
+geometry-requires c κs = (begun _, sheet-stands _ (omega arith))
+
+enum-known-t : tie.Need-enum-known-t
 enum-known-t c = search needs
 
-loop-less : tie.Need-loop-less Inv-loop μ-loop
-loop-less c = let w = went-on _ _ _ _ _ _ _ (c .before .before .before .before .before .geometry .ensures) _ _ (c .before .t .given .1) in omega (arith, w .1, w .0 .inside)
+step-requires : tie.Need-step-requires
+step-requires c κs = search needs
 
-loop-again : tie.Need-loop-again Inv-loop μ-loop
-loop-again c = let w = went-on _ _ _ _ _ _ _ (c .before .before .before .before .before .geometry .ensures) _ _ (c .before .t .given .1) in (w .0, search needs, follow (c .before .before .before .before .before .before .before .loop .inv .2) (w .2))
+enum-told : tie.Need-enum-told
+enum-told c = search needs
 
-enum-known-t-2 : tie.Need-enum-known-t-2 Inv-loop μ-loop
-enum-known-t-2 c = search needs
-
-same-length : tie.Need-same-length Inv-loop μ-loop
+same-length : tie.Need-same-length
 same-length c = search needs
 
-returns : tie.Need-returns Inv-loop μ-loop
-returns c = let e = finish _ _ _ _ _ _ _ refl (follow-over (c .before .before .before .before .before .before .before .before .loop .inv .2) (was-over _ _ _ _ _ _ _ (c .before .before .before .before .before .before .geometry .ensures) _ _ _ (c .before .before .t2 .given .1))) in (ends-sheet _ _ _ _ _ _ e (c .if1 .taken), e .3)
+returns : tie.Need-returns
+returns c = ends-seven _ _ _ _ _ (trail (c .before)) (last (c .before)) (λ x e. not-the-end (c .before .step .result) x (c .match2 .keys2) (c .before .step .ensures ∙ e))
 
-same-length-2 : tie.Need-same-length-2 Inv-loop μ-loop
+enum-known-t-2 : tie.Need-enum-known-t-2
+enum-known-t-2 c = search needs
+
+same-length-2 : tie.Need-same-length-2
 same-length-2 c = search needs
 
-returns-2 : tie.Need-returns-2 Inv-loop μ-loop
-returns-2 c = let e = finish _ _ _ _ _ _ _ refl (follow-over (c .before .before .before .before .before .before .before .before .loop .inv .2) (was-over _ _ _ _ _ _ _ (c .before .before .before .before .before .before .geometry .ensures) _ _ _ (c .before .before .t2 .given .1))) in (ends-refused _ _ _ _ _ _ e (c .if1 .left), e .3)
+returns-2 : tie.Need-returns-2
+returns-2 c = let d = c .before .before in ends-sheet _ _ _ _ _ (trail d) (last d) _ (sym (d .step .ensures) ∙ c .enum-told .given .1)
+
+same-length-3 : tie.Need-same-length-3
+same-length-3 c = search needs
+
+returns-3 : tie.Need-returns-3
+returns-3 c = ends-refused _ _ _ _ _ (was-over _ _ _ _ _ _ _ (c .before .before .before .before .before .geometry .ensures .0) _ _ (c .before .t2 .given .1))
 
 pub read-spec : {M : Type 1} → statement M
 read-spec =
     tie.close
     (tie.spec
-    Inv-loop
-    μ-loop
-    loop-holds
     geometry-requires
     enum-known-t
-    loop-less
-    loop-again
-    enum-known-t-2
+    step-requires
+    enum-told
     same-length
     returns
+    enum-known-t-2
     same-length-2
-    returns-2)
+    returns-2
+    same-length-3
+    returns-3)

@@ -7,6 +7,7 @@ use borrow.Author.Needs.{needs}
 use denote.Ref.{now}
 use lib.ListN.{length, drop}
 use lib.Seq.{length-take-le}
+use Rattle.text.proofs.Texts.{put-over, put-front}
 use Rattle.lent.specs.Answered.{Answered}
 use Rattle.lent.proofs.Answered.{answered-short, answered-bytes}
 use Rattle.judged.specs.Judged.{judgedSheet}
@@ -29,31 +30,33 @@ returns : tie.Need-returns
 returns c =
     let s = now (c .before .before .before .before .before .before .before .args .sheet) in
     let t = listing (judgedSheet s) in
-    let k : length t ≡ c .before .before .print .result = ap length (sym (c .before .before .print .ensures .1)) ∙ length-take-le _ _ (omega (arith, c .before .before .print .ensures .0, c .before .before .print .kept .1 .0, c .before .before .before .before .text-list .ensures)) in
-    answered-short _ _ (length t) t (listing-on s) (omega (arith, k, c .if1 .taken))
+    answered-short _ _ (length t) t (listing-on s) (omega (arith, c .before .before .print .ensures .1 .place, c .if1 .taken))
 
 array-share-prefix-text : tie.Need-array-share-prefix-text
-array-share-prefix-text c = omega (arith, c .before .before .print .ensures .0, c .before .before .print .kept .1 .0, c .before .before .before .before .text-list .ensures)
+array-share-prefix-text c = search needs
 
-slice-aggregate-write-text : tie.Need-slice-aggregate-write-text
-slice-aggregate-write-text c = sym (length-take-le _ _ (omega (arith, c .before .before .before .print .ensures .0, c .before .before .before .print .kept .1 .0, c .before .before .before .before .before .text-list .ensures)))
+slice-aggregate-put-word : tie.Need-slice-aggregate-put-word
+slice-aggregate-put-word c = sym (length-take-le _ _ (omega (arith, c .before .before .before .before .print .ensures .0, c .before .before .before .before .print .kept .1 .0, c .before .before .before .before .before .before .text-list .ensures)))
 
-write-text-requires : tie.Need-write-text-requires
-write-text-requires c κs = omega (arith, length-take-le (c .before .before .before .before .print .result) (c .before .before .before .before .print .last .1 .0) (omega (arith, c .before .before .before .before .print .ensures .0, c .before .before .before .before .print .kept .1 .0, c .before .before .before .before .before .before .text-list .ensures)), c .before .before .if1 .left)
+put-word-requires : tie.Need-put-word-requires
+put-word-requires c κs =
+    let p = c .before .before .before .before .print in
+    omega (arith, length-take-le (p .result) (p .last .1 .0) (omega (arith, p .ensures .0, p .kept .1 .0, c .before .before .before .before .before .before .text-list .ensures)), c .before .before .if1 .left)
 
 mul-result : tie.Need-mul-result
-mul-result c = omega (arith, c .before .before .before .before .before .before .before .print .ensures .0)
+mul-result c = search needs
 
 same-length : tie.Need-same-length
 same-length c = search needs
 
 returns-2 : tie.Need-returns-2
 returns-2 c =
-    let s = now (c .before .before .before .before .before .before .before .before .before .before .before .before .args .sheet) in
-    let t = listing (judgedSheet s) in
-    let k : length t ≡ c .before .before .before .before .before .before .before .print .result = ap length (sym (c .before .before .before .before .before .before .before .print .ensures .1)) ∙ length-take-le _ _ (omega (arith, c .before .before .before .before .before .before .before .print .ensures .0, c .before .before .before .before .before .before .before .print .kept .1 .0, c .before .before .before .before .before .before .before .before .before .text-list .ensures)) in
-    subst (λ m. Answered (sheetListing (now (c .before .before .before .before .before .before .before .before .before .before .before .before .args .sheet))) (now (c .before .before .before .before .before .before .before .before .before .before .before .before .args .out)) (m * 256) (c .before .before .write-text .last .1 .0)) k
-    (answered-bytes _ _ (length t) t (listing-on s) _ (omega (arith, k, c .before .before .before .before .before .if1 .left)) (c .before .before .write-text .ensures ∙ ap (λ l. l ++ drop (length l) (now (c .before .before .before .before .before .before .before .before .before .before .before .before .args .out))) (c .before .before .before .before .before .before .before .print .ensures .1)))
+    let a = c .before .before .before .before .before .before .before .before .before .before .before .before .args in
+    let t = listing (judgedSheet (now (a .sheet))) in
+    let p = c .before .before .before .before .before .before .before .print .ensures .1 in
+    let k : length t ≡ c .before .before .before .before .before .before .before .print .result = omega (arith, p .place) in
+    subst (λ m. Answered (sheetListing (now (a .sheet))) (now (a .out)) (m * 256) (c .before .before .put-word .last .0)) k
+    (answered-bytes _ _ (length t) t (listing-on (now (a .sheet))) _ (omega (arith, k, c .before .before .before .before .before .if1 .left)) (put-over (c .before .before .put-word .ensures) ∙ ap (λ l. l ++ drop (length l) (now (a .out))) (put-front p)))
 
 pub sheet-listing-spec : {M : Type 1} → statement M
 sheet-listing-spec =
@@ -64,8 +67,8 @@ sheet-listing-spec =
     print-requires
     returns
     array-share-prefix-text
-    slice-aggregate-write-text
-    write-text-requires
+    slice-aggregate-put-word
+    put-word-requires
     mul-result
     same-length
     returns-2)

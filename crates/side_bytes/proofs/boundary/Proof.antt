@@ -10,12 +10,13 @@ use lib.ListN.{length, take, drop, length-append}
 use lib.Seq.{length-take-le, take-append-le}
 use Rattle.whole.specs.Sums.{All}
 use Rattle.regions.specs.Spreading.{Paired}
-use Rattle.bounding.specs.Sides.{boundaryNumbers}
+use Rattle.bounding.specs.Numbered.{boundaryNumbers}
+use Rattle.bounding.proofs.Laying.{front-laid}
 use Rattle.lent.specs.Answered.{Answered}
-use Rattle.little.specs.Bytes.{sideHeld, SideIn}
+use Rattle.little.specs.Held.{sideHeld, SideIn}
 use Rattle.lent.proofs.Answered.{answered-refusal, answered-short, answered-bytes}
 use Rattle.little.proofs.Bytes.{side-length, all-length}
-use Rattle.answers.specs.Answers.{sidesHeld, sidesOutcome}
+use Rattle.answers.specs.Held.{sidesHeld, sidesOutcome}
 use Rattle.answers.proofs.After.{not-repaired, goes-on, as-many, room, front, sides-in}
 use Rattle.side_bytes.proofs.boundary.Statement.{statement}
 use Rattle.side_bytes.proofs.boundary.Tie as tie
@@ -79,18 +80,18 @@ returns-2 c =
     let f = front o (drop (length s) (c .before .before .before .before .before .before .before .before .before .before .owner-list .result)) (length s) n in
     let l = boundaryNumbers a o (c .before .before .before .before .before .before .before .before .before .before .before .before .before .before .before .args .polygon) in
     let g : take (c .before .before .boundary .result) (c .before .before .boundary .last .1 .1 .1 .0 ++ drop (length a) (c .before .before .before .before .before .before .before .before .before .side-list .result)) ≡ l
-    = take-append-le (c .before .before .boundary .result) (c .before .before .boundary .last .1 .1 .1 .0) _ (omega (arith, c .before .before .boundary .ensures .0, c .before .before .boundary .kept .1 .1 .1 .0)) ∙ c .before .before .boundary .ensures .1 ∙ ap (λ o. boundaryNumbers a o (c .before .before .before .before .before .before .before .before .before .before .before .before .before .before .before .args .polygon)) f in
-    let k : length l ≡ c .before .before .boundary .result = ap length (sym g) ∙ length-take-le (c .before .before .boundary .result) _ (omega (arith, length-append (c .before .before .boundary .last .1 .1 .1 .0) (drop (length a) (c .before .before .before .before .before .before .before .before .before .side-list .result)), c .before .before .boundary .ensures .0, c .before .before .boundary .kept .1 .1 .1 .0)) in
+    = take-append-le (c .before .before .boundary .result) (c .before .before .boundary .last .1 .1 .1 .0) _ (omega (arith, front-laid (c .before .before .boundary .ensures) .0, c .before .before .boundary .kept .1 .1 .1 .0)) ∙ front-laid (c .before .before .boundary .ensures) .1 ∙ ap (λ o. boundaryNumbers a o (c .before .before .before .before .before .before .before .before .before .before .before .before .before .before .before .args .polygon)) f in
+    let k : length l ≡ c .before .before .boundary .result = ap length (sym g) ∙ length-take-le (c .before .before .boundary .result) _ (omega (arith, length-append (c .before .before .boundary .last .1 .1 .1 .0) (drop (length a) (c .before .before .before .before .before .before .before .before .before .side-list .result)), front-laid (c .before .before .boundary .ensures) .0, c .before .before .boundary .kept .1 .1 .1 .0)) in
     let z = all-length 16 (sideHeld (now (c .before .before .before .before .before .before .before .before .before .before .before .before .before .before .before .args .numbers))) (side-length (now (c .before .before .before .before .before .before .before .before .before .before .before .before .before .before .before .args .numbers))) l in
     answered-short _ _ (length l) (flatMap (sideHeld (now (c .before .before .before .before .before .before .before .before .before .before .before .before .before .before .before .args .numbers))) l)
     (goes-on a s (c .before .before .before .before .before .before .before .repair .result) o (c .before .before .before .before .before .before .before .repair .ensures) (c .before .before .before .before .before .if1 .left) (λ o. sidesHeld (now (c .before .before .before .before .before .before .before .before .before .before .before .before .before .before .before .args .numbers)) (boundaryNumbers a o (c .before .before .before .before .before .before .before .before .before .before .before .before .before .before .before .args .polygon))))
     (omega (arith, k, all-length 16 (sideHeld (now (c .before .before .before .before .before .before .before .before .before .before .before .before .before .before .before .args .numbers))) (side-length (now (c .before .before .before .before .before .before .before .before .before .before .before .before .before .before .before .args .numbers))) l, c .if2 .taken))
 
 array-share-prefix-sides : tie.Need-array-share-prefix-sides
-array-share-prefix-sides c = omega (arith, length-append (c .before .before .boundary .last .1 .1 .1 .0) (drop (length (now (c .before .before .before .before .before .before .before .before .before .before .before .before .before .before .before .args .opposite))) (c .before .before .before .before .before .before .before .before .before .side-list .result)), c .before .before .boundary .ensures .0, c .before .before .boundary .kept .1 .1 .1 .0)
+array-share-prefix-sides c = omega (arith, length-append (c .before .before .boundary .last .1 .1 .1 .0) (drop (length (now (c .before .before .before .before .before .before .before .before .before .before .before .before .before .before .before .args .opposite))) (c .before .before .before .before .before .before .before .before .before .side-list .result)), front-laid (c .before .before .boundary .ensures) .0, c .before .before .boundary .kept .1 .1 .1 .0)
 
 slice-aggregate-write-sides : tie.Need-slice-aggregate-write-sides
-slice-aggregate-write-sides c = sym (length-take-le _ _ (omega (arith, length-append (c .before .before .before .boundary .last .1 .1 .1 .0) (drop (length (now (c .before .before .before .before .before .before .before .before .before .before .before .before .before .before .before .before .args .opposite))) (c .before .before .before .before .before .before .before .before .before .before .side-list .result)), c .before .before .before .boundary .ensures .0, c .before .before .before .boundary .kept .1 .1 .1 .0)))
+slice-aggregate-write-sides c = sym (length-take-le _ _ (omega (arith, length-append (c .before .before .before .boundary .last .1 .1 .1 .0) (drop (length (now (c .before .before .before .before .before .before .before .before .before .before .before .before .before .before .before .before .args .opposite))) (c .before .before .before .before .before .before .before .before .before .before .side-list .result)), front-laid (c .before .before .before .boundary .ensures) .0, c .before .before .before .boundary .kept .1 .1 .1 .0)))
 
 write-sides-requires : tie.Need-write-sides-requires
 write-sides-requires c κs =
@@ -101,15 +102,15 @@ write-sides-requires c κs =
     let f = front o (drop (length s) (c .before .before .before .before .before .before .before .before .before .before .before .before .owner-list .result)) (length s) n in
     let l = boundaryNumbers a o (c .before .before .before .before .before .before .before .before .before .before .before .before .before .before .before .before .before .args .polygon) in
     let g : take (c .before .before .before .before .boundary .result) (c .before .before .before .before .boundary .last .1 .1 .1 .0 ++ drop (length a) (c .before .before .before .before .before .before .before .before .before .before .before .side-list .result)) ≡ l
-    = take-append-le (c .before .before .before .before .boundary .result) (c .before .before .before .before .boundary .last .1 .1 .1 .0) _ (omega (arith, c .before .before .before .before .boundary .ensures .0, c .before .before .before .before .boundary .kept .1 .1 .1 .0)) ∙ c .before .before .before .before .boundary .ensures .1 ∙ ap (λ o. boundaryNumbers a o (c .before .before .before .before .before .before .before .before .before .before .before .before .before .before .before .before .before .args .polygon)) f in
-    let k : length l ≡ c .before .before .before .before .boundary .result = ap length (sym g) ∙ length-take-le (c .before .before .before .before .boundary .result) _ (omega (arith, length-append (c .before .before .before .before .boundary .last .1 .1 .1 .0) (drop (length a) (c .before .before .before .before .before .before .before .before .before .before .before .side-list .result)), c .before .before .before .before .boundary .ensures .0, c .before .before .before .before .boundary .kept .1 .1 .1 .0)) in
+    = take-append-le (c .before .before .before .before .boundary .result) (c .before .before .before .before .boundary .last .1 .1 .1 .0) _ (omega (arith, front-laid (c .before .before .before .before .boundary .ensures) .0, c .before .before .before .before .boundary .kept .1 .1 .1 .0)) ∙ front-laid (c .before .before .before .before .boundary .ensures) .1 ∙ ap (λ o. boundaryNumbers a o (c .before .before .before .before .before .before .before .before .before .before .before .before .before .before .before .before .before .args .polygon)) f in
+    let k : length l ≡ c .before .before .before .before .boundary .result = ap length (sym g) ∙ length-take-le (c .before .before .before .before .boundary .result) _ (omega (arith, length-append (c .before .before .before .before .boundary .last .1 .1 .1 .0) (drop (length a) (c .before .before .before .before .before .before .before .before .before .before .before .side-list .result)), front-laid (c .before .before .before .before .boundary .ensures) .0, c .before .before .before .before .boundary .kept .1 .1 .1 .0)) in
     let z = all-length 16 (sideHeld (now (c .before .before .before .before .before .before .before .before .before .before .before .before .before .before .before .before .before .args .numbers))) (side-length (now (c .before .before .before .before .before .before .before .before .before .before .before .before .before .before .before .before .before .args .numbers))) l in (
       subst (All (SideIn (now (c .before .before .before .before .before .before .before .before .before .before .before .before .before .before .before .before .before .args .numbers)))) (sym g) (sides-in (now (c .before .before .before .before .before .before .before .before .before .before .before .before .before .before .before .before .before .args .numbers)) a o (c .before .before .before .before .before .before .before .before .before .before .before .before .before .before .before .before .before .args .polygon) (length s) (c .before .before .before .before .before .before .before .before .before .before .before .before .before .before .before .before .before .pre .0) (c .before .before .before .before .before .before .before .before .before .before .before .before .before .before .before .before .before .pre .2)),
       omega (arith, ap length g, k, c .before .before .if2 .left),
     )
 
 mul-result : tie.Need-mul-result
-mul-result c = omega (arith, c .before .before .before .before .before .before .before .boundary .ensures .0, c .before .before .before .before .before .before .before .before .before .before .before .before .before .before .before .before .before .before .before .before .pre .0 .sides, c .before .before .before .before .before .before .before .before .before .before .before .before .before .before .before .before .before .before .before .before .pre .1, length-take-le (length (now (c .before .before .before .before .before .before .before .before .before .before .before .before .before .before .before .before .before .before .before .before .args .opposite))) (c .before .before .before .before .before .before .before .before .before .before .before .before .before .before .side-list .result) (omega (arith, c .before .before .before .before .before .before .before .before .before .before .before .before .before .before .before .before .before .before .before .before .pre .0 .sides, c .before .before .before .before .before .before .before .before .before .before .before .before .before .before .before .before .before .before .before .before .pre .1, c .before .before .before .before .before .before .before .before .before .before .before .before .before .before .side-list .ensures)))
+mul-result c = omega (arith, front-laid (c .before .before .before .before .before .before .before .boundary .ensures) .0, c .before .before .before .before .before .before .before .before .before .before .before .before .before .before .before .before .before .before .before .before .pre .0 .sides, c .before .before .before .before .before .before .before .before .before .before .before .before .before .before .before .before .before .before .before .before .pre .1, length-take-le (length (now (c .before .before .before .before .before .before .before .before .before .before .before .before .before .before .before .before .before .before .before .before .args .opposite))) (c .before .before .before .before .before .before .before .before .before .before .before .before .before .before .side-list .result) (omega (arith, c .before .before .before .before .before .before .before .before .before .before .before .before .before .before .before .before .before .before .before .before .pre .0 .sides, c .before .before .before .before .before .before .before .before .before .before .before .before .before .before .before .before .before .before .before .before .pre .1, c .before .before .before .before .before .before .before .before .before .before .before .before .before .before .side-list .ensures)))
 
 same-length : tie.Need-same-length
 same-length c = search needs
@@ -123,8 +124,8 @@ returns-3 c =
     let f = front o (drop (length s) (c .before .before .before .before .before .before .before .before .before .before .before .before .before .before .before .owner-list .result)) (length s) n in
     let l = boundaryNumbers a o (c .before .before .before .before .before .before .before .before .before .before .before .before .before .before .before .before .before .before .before .before .args .polygon) in
     let g : take (c .before .before .before .before .before .before .before .boundary .result) (c .before .before .before .before .before .before .before .boundary .last .1 .1 .1 .0 ++ drop (length a) (c .before .before .before .before .before .before .before .before .before .before .before .before .before .before .side-list .result)) ≡ l
-    = take-append-le (c .before .before .before .before .before .before .before .boundary .result) (c .before .before .before .before .before .before .before .boundary .last .1 .1 .1 .0) _ (omega (arith, c .before .before .before .before .before .before .before .boundary .ensures .0, c .before .before .before .before .before .before .before .boundary .kept .1 .1 .1 .0)) ∙ c .before .before .before .before .before .before .before .boundary .ensures .1 ∙ ap (λ o. boundaryNumbers a o (c .before .before .before .before .before .before .before .before .before .before .before .before .before .before .before .before .before .before .before .before .args .polygon)) f in
-    let k : length l ≡ c .before .before .before .before .before .before .before .boundary .result = ap length (sym g) ∙ length-take-le (c .before .before .before .before .before .before .before .boundary .result) _ (omega (arith, length-append (c .before .before .before .before .before .before .before .boundary .last .1 .1 .1 .0) (drop (length a) (c .before .before .before .before .before .before .before .before .before .before .before .before .before .before .side-list .result)), c .before .before .before .before .before .before .before .boundary .ensures .0, c .before .before .before .before .before .before .before .boundary .kept .1 .1 .1 .0)) in
+    = take-append-le (c .before .before .before .before .before .before .before .boundary .result) (c .before .before .before .before .before .before .before .boundary .last .1 .1 .1 .0) _ (omega (arith, front-laid (c .before .before .before .before .before .before .before .boundary .ensures) .0, c .before .before .before .before .before .before .before .boundary .kept .1 .1 .1 .0)) ∙ front-laid (c .before .before .before .before .before .before .before .boundary .ensures) .1 ∙ ap (λ o. boundaryNumbers a o (c .before .before .before .before .before .before .before .before .before .before .before .before .before .before .before .before .before .before .before .before .args .polygon)) f in
+    let k : length l ≡ c .before .before .before .before .before .before .before .boundary .result = ap length (sym g) ∙ length-take-le (c .before .before .before .before .before .before .before .boundary .result) _ (omega (arith, length-append (c .before .before .before .before .before .before .before .boundary .last .1 .1 .1 .0) (drop (length a) (c .before .before .before .before .before .before .before .before .before .before .before .before .before .before .side-list .result)), front-laid (c .before .before .before .before .before .before .before .boundary .ensures) .0, c .before .before .before .before .before .before .before .boundary .kept .1 .1 .1 .0)) in
     let z = all-length 16 (sideHeld (now (c .before .before .before .before .before .before .before .before .before .before .before .before .before .before .before .before .before .before .before .before .args .numbers))) (side-length (now (c .before .before .before .before .before .before .before .before .before .before .before .before .before .before .before .before .before .before .before .before .args .numbers))) l in
     subst (λ m. Answered (sidesOutcome (now (c .before .before .before .before .before .before .before .before .before .before .before .before .before .before .before .before .before .before .before .before .args .numbers)) a s (c .before .before .before .before .before .before .before .before .before .before .before .before .before .before .before .before .before .before .before .before .args .polygon)) (now (c .before .before .before .before .before .before .before .before .before .before .before .before .before .before .before .before .before .before .before .before .args .out)) (m * 256) (c .before .before .write-sides .last .1 .1 .0)) k
     (answered-bytes _ _ (length l) (flatMap (sideHeld (now (c .before .before .before .before .before .before .before .before .before .before .before .before .before .before .before .before .before .before .before .before .args .numbers))) l) (goes-on a s (c .before .before .before .before .before .before .before .before .before .before .before .before .repair .result) o (c .before .before .before .before .before .before .before .before .before .before .before .before .repair .ensures) (c .before .before .before .before .before .before .before .before .before .before .if1 .left) (λ o. sidesHeld (now (c .before .before .before .before .before .before .before .before .before .before .before .before .before .before .before .before .before .before .before .before .args .numbers)) (boundaryNumbers a o (c .before .before .before .before .before .before .before .before .before .before .before .before .before .before .before .before .before .before .before .before .args .polygon)))) _ (omega (arith, z, k, c .before .before .before .before .before .if2 .left))

@@ -7,7 +7,8 @@ use denote.Ref.{now}
 use lib.ListN.{getD}
 use lib.Seq.{sets}
 use borrow.Author.Needs.{needs}
-use Rattle.little.specs.Bytes.{heldBytes, endOf, cornerHeld}
+use Rattle.little.specs.Bytes.{heldBytes}
+use Rattle.little.specs.Held.{endOf, cornerHeld}
 use Rattle.little.proofs.Bytes.{held-length, corner-length}
 use Rattle.little.proofs.Stored.{sets-behind}
 use Rattle.side_bytes.proofs.put_side.Statement.{statement}

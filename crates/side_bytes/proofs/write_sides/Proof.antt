@@ -8,7 +8,7 @@ use denote.Ref.{now}
 use lib.ListN.{length, getD, take, drop}
 use lib.Seq.{sets, length-sets, take-all}
 use Rattle.whole.proofs.Sums.{all-at}
-use Rattle.little.specs.Bytes.{SideIn, sideHeld}
+use Rattle.little.specs.Held.{SideIn, sideHeld}
 use Rattle.little.proofs.Bytes.{side-length, one-more}
 use Rattle.side_bytes.proofs.write_sides.Statement.{statement}
 use Rattle.side_bytes.proofs.write_sides.Tie as tie

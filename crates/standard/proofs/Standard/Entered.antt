@@ -2,12 +2,14 @@
 -- before; and the place after its header, whose lists are such. Assumes nothing.
 use mathlib.Core.Path.{_≡_, refl, sym, _∙_}
 use mathlib.Core.List.{_++_, append-nil}
-use Prim.Native.Nat.{ℕ, _+_, _≤_}
+use Prim.Native.Nat.{ℕ, _≤_}
 use native.Mathlib.Omega.{arith}
 use Rattle.wkb.specs.declared.Cursor.{Cursor}
+use Rattle.wkb.specs.Places.{moved, geometriesToCome}
 use Rattle.wkb.specs.Standard.{Geometries, none, count, encodeAll}
+use Rattle.wkb.proofs.Complete.{Complete}
 use Rattle.standard.specs.Limits.{membersOf, Each, PartFits, MembersFit}
-use Rattle.standard.proofs.Standard.Left.{Left, leftBytes, leftOpen, BelowAt, Complete, none-left}
+use Rattle.standard.proofs.Standard.Left.{Left, leftBytes, leftOpen, BelowAt, none-left}
 use Rattle.standard.proofs.Standard.Levels.{Level, Inside, part, own, second, third, fourth}
 
 -- Its parts or members become the lists' level l.
@@ -48,21 +50,7 @@ secondWith second n m = n
 
 -- The place after its header.
 abbrev pub entered : Level → ℕ → Cursor → Cursor
-entered l n d = record {
-  at = d .at + 9;
-  member = d .member;
-  members = d .members;
-  header = d .header;
-  second = secondWith l n (d .second);
-  third = thirdWith l n (d .third);
-  fourth = fourthWith l n (d .fourth);
-  parts = partsWith l n (d .parts);
-  rings = d .rings;
-  little = d .little;
-  points = d .points;
-  polygons = d .polygons;
-  total = d .total;
-}
+entered l n d = geometriesToCome (d .header) (secondWith l n (d .second)) (thirdWith l n (d .third)) (fourthWith l n (d .fourth)) (partsWith l n (d .parts)) (moved 9 d)
 
 -- What its parts or members may be.
 abbrev pub Children : Level → Geometries → Type 0

@@ -8,11 +8,12 @@ use lib.ListN.{length, drop}
 use Rattle.wkb.specs.declared.Cursor.{Cursor}
 use Rattle.kinds.specs.declared.Kind.{Kind}
 use Rattle.wkb.specs.Standard.{holding, Geometries, count, encode, encodeAll}
+use Rattle.wkb.proofs.Complete.{is-complete}
 use Rattle.kinds.specs.Kinds.{typeOf}
 use Rattle.sheet.specs.Reading.{Taken}
 use Rattle.standard.specs.Limits.{memberOf}
 use Rattle.standard.proofs.Standard.Fields.{heading, heading-is}
-use Rattle.standard.proofs.Standard.Left.{Left, leftBytes, BelowAt, Stands, Raw, Good, front, outcome, is-complete}
+use Rattle.standard.proofs.Standard.Left.{Left, leftBytes, BelowAt, Stands, Raw, Good, front, outcome}
 use Rattle.standard.proofs.Standard.Levels.{Level, Inside}
 use Rattle.standard.proofs.Standard.Pending.{Pending, pendingOutcome}
 use Rattle.standard.proofs.Standard.Entered.{put, entered, Children, put-bytes, put-open, put-members, below-put, Zero, vacant, entered-going}

@@ -9,11 +9,13 @@ use lib.Seq.{set-getD}
 use Rattle.plane.specs.Corners.{millimetres}
 use Rattle.wkb.specs.declared.Cursor.{Cursor}
 use Rattle.wkb.specs.Standard.{Pair, Geometries, none, _then_, count, encodeAll}
-use Rattle.sheet.specs.Reading.{Taken, reading}
+use Rattle.wkb.proofs.Complete.{Complete, complete-is}
+use Rattle.sheet.specs.Reading.{Taken}
+use Rattle.sheet.specs.Going.{reading}
 use Rattle.standard.specs.Limits.{membersOf, MembersFit}
 use Rattle.standard.proofs.Standard.Fields.{Bytes}
 use Rattle.standard.proofs.Standard.Steps.{end-goes, end-back}
-use Rattle.standard.proofs.Standard.Left.{Left, leftBytes, leftOpen, Stands, Good, front, leftNumbers, outcome, Ends, Complete, complete-is, Found, Through, Back}
+use Rattle.standard.proofs.Standard.Left.{Left, leftBytes, leftOpen, Stands, Good, front, leftNumbers, outcome, Ends, Found, Through, Back}
 use Rattle.standard.proofs.Standard.Points.{no-header, point-through, point-return}
 use Rattle.standard.proofs.Standard.Rings.{ring-through, ring-return}
 use Rattle.standard.proofs.Standard.Levels.{part, own, second, third, fourth}

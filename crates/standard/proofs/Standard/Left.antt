@@ -2,11 +2,10 @@
 -- rings, parts and members of each open collection are still to come, one list for each, and their bytes stand in this order; so a step
 -- takes the first thing off these lists. Assumes nothing.
 use mathlib.Core.Path.{_≡_, refl, sym, _∙_, ap}
-use mathlib.Core.Bool.{Bool, true, false, cond}
+use mathlib.Core.Bool.{true, false, cond}
 use mathlib.Core.List.{List, [], _∷_, _++_, map, flatMap, append-assoc, map-append}
 use Prim.Native.Nat.{ℕ, _+_, _≤_, _<_}
 use native.Mathlib.Omega.{arith}
-use borrow.Author.Tests.{eqb-true, eq-eqb, not-true}
 use lib.IntN.{ℤ, pos, _+ℤ_}
 use lib.ListN.{length, drop, getD, set, length-append, List·getD-append}
 use lib.Seq.{set-append-left}
@@ -15,12 +14,12 @@ use Rattle.whole.specs.Polynomials.{_:+_, _:-_, _:=_}
 use Rattle.whole.proofs.Ring.{solve}
 use Rattle.plane.specs.Members.{Polygon}
 use Rattle.plane.specs.Corners.{millimetres}
-use Rattle.coordinate.proofs.Doubles.{and-true}
 use Rattle.wkb.specs.declared.Cursor.{Cursor}
 use Rattle.wkb.specs.Standard.{Pair, Geometry, Geometries, none, _then_, count, encodePoint, encodeRing, encodeAll}
 use Rattle.wkb.specs.Steps.{complete}
 use Rattle.sheet.specs.Numbers.{pointNumbers, ringNumbers, partNumbers, memberNumbers}
-use Rattle.sheet.specs.Reading.{Taken, Reading, held, reading}
+use Rattle.sheet.specs.Reading.{Taken, Reading, held}
+use Rattle.sheet.specs.Going.{reading}
 use Rattle.standard.specs.Limits.{pointOf, ringOf, memberOf, membersOf, each, IsCoordinate, RingFits, PartFits, Each, MemberFits, MembersFit, ringLengths, lengths, allLengths}
 
 -- What is left behind the open polygon: parts of the open MultiPolygon, members of the open collections at depth 4, 3 and 2, and members of
@@ -131,54 +130,6 @@ pushed l u i v rest h =
 
 pub still-marked : (l u : List ℕ) (i v : ℕ) → (i < length l) × (getD l i 0 ≡ v) → (i < length (l ++ u)) × (getD (l ++ u) i 0 ≡ v)
 still-marked l u i v h = (omega (arith, h .0, length-append l u), List·getD-append l u 0 i (h .0) ∙ h .1)
-
-pub record Complete (c : Cursor) : Type 0 where
-  pub no-header : c .header ≡ false
-  pub no-second : c .second ≡ 0
-  pub no-third : c .third ≡ 0
-  pub no-fourth : c .fourth ≡ 0
-  pub no-parts : c .parts ≡ 0
-  pub no-rings : c .rings ≡ 0
-  pub no-points : c .points ≡ 0
-
-pub is-complete : (c : Cursor) → complete c ≡ true → Complete c
-unfolding complete
-is-complete c e =
-    let e6 = and-true _ _ e in
-    let e5 = and-true _ _ (e6 .0) in
-    let e4 = and-true _ _ (e5 .0) in
-    let e3 = and-true _ _ (e4 .0) in
-    let e2 = and-true _ _ (e3 .0) in
-    let e1 = and-true _ _ (e2 .0) in
-    record {
-      no-header = not-true (c .header) (e1 .0);
-      no-second = eqb-true (c .second) 0 (e1 .1);
-      no-third = eqb-true (c .third) 0 (e2 .1);
-      no-fourth = eqb-true (c .fourth) 0 (e3 .1);
-      no-parts = eqb-true (c .parts) 0 (e4 .1);
-      no-rings = eqb-true (c .rings) 0 (e5 .1);
-      no-points = eqb-true (c .points) 0 (e6 .1);
-    }
-
-pub complete-is : (c : Cursor) → Complete c → complete c ≡ true
-unfolding complete
-complete-is c h =
-    rw (
-      h .no-header,
-      eq-eqb (c .second) 0 (h .no-second),
-      eq-eqb (c .third) 0 (h .no-third),
-      eq-eqb (c .fourth) 0 (h .no-fourth),
-      eq-eqb (c .parts) 0 (h .no-parts),
-      eq-eqb (c .rings) 0 (h .no-rings),
-      eq-eqb (c .points) 0 (h .no-points),
-    ) refl
-
-pub not-complete : (c : Cursor) → (Complete c → ⊥) → complete c ≡ false
-not-complete c h = go (complete c) refl
-  where
-    go : (t : Bool) → complete c ≡ t → t ≡ false
-    go true e = absurd (h (is-complete c e))
-    go false e = refl
 
 pub none-left : (gs : Geometries) → count gs ≡ 0 → gs ≡ none
 none-left none e = refl

@@ -5,36 +5,17 @@ use mathlib.Core.Path.{_≡_, refl, _∙_}
 use mathlib.Core.Bool.{Bool, true, false}
 use mathlib.Core.List.{List, _++_, append-assoc}
 use Prim.Native.Nat.{ℕ, _-_, _<_}
-use native.Mathlib.Omega.{arith}
-use borrow.Author.Tests.{lt-ltb, le-ltb}
 use Rattle.wkb.specs.declared.Cursor.{Cursor}
+use Rattle.wkb.specs.Places.{geometriesToCome}
 use Rattle.wkb.specs.Standard.{Geometry, none, _then_, encode, encodeAll}
 use Rattle.wkb.specs.Steps.{popped}
+use Rattle.wkb.proofs.Steps.{popped-own, popped-fourth, popped-third, popped-second}
 use Rattle.sheet.specs.Reading.{Taken, begin}
 use Rattle.standard.specs.Limits.{memberOf, membersOf, PartFits, MemberFits}
-use Rattle.standard.proofs.Standard.Steps.{cond-yes, cond-no}
 use Rattle.standard.proofs.Standard.Left.{Left, leftBytes, leftOpen, BelowAt, Raw, none-left}
 
 pub data Level : Type 0 where
   part own second third fourth : Level
-
--- The place with other counts of parts and of the members of open collections.
-abbrev pub placed : Cursor → Bool → ℕ → ℕ → ℕ → ℕ → Cursor
-placed c h p f t e = record {
-  at = c .at;
-  member = c .member;
-  members = c .members;
-  header = h;
-  second = e;
-  third = t;
-  fourth = f;
-  parts = p;
-  rings = c .rings;
-  little = c .little;
-  points = c .points;
-  polygons = c .polygons;
-  total = c .total;
-}
 
 -- The next geometry stands at the level.
 abbrev pub At : Level → Cursor → Type 0
@@ -81,7 +62,7 @@ secondWithout third n = n
 secondWithout second n = n - 1
 
 abbrev pub taking : Level → Cursor → Cursor
-taking l c = placed c (headerWithout l (c .header)) (partsWithout l (c .parts)) (fourthWithout l (c .fourth)) (thirdWithout l (c .third)) (secondWithout l (c .second))
+taking l c = geometriesToCome (headerWithout l (c .header)) (secondWithout l (c .second)) (thirdWithout l (c .third)) (fourthWithout l (c .fourth)) (partsWithout l (c .parts)) c
 
 -- What was taken, then: the member's own geometry begins the member.
 abbrev pub begun : Level → Taken → Taken
@@ -150,9 +131,8 @@ with-open third g w n f = rw (n .0, n .1) (append-assoc (memberOf g) (membersOf 
 with-open second g w n f = rw (n .0, n .1, n .2) refl
 
 pub popped-is : (l : Level) (c : Cursor) → At l c → (l ≡ part → ⊥) → popped c ≡ taking l c
-unfolding popped
 popped-is part c a f = absurd (f refl)
-popped-is own c a f = cond-yes _ _ (a .0)
-popped-is fourth c a f = cond-no _ _ (a .0) ∙ cond-yes _ _ (lt-ltb 0 (c .fourth) (a .2))
-popped-is third c a f = cond-no _ _ (a .0) ∙ cond-no _ _ (le-ltb 0 (c .fourth) (let z = a .2 in omega arith)) ∙ cond-yes _ _ (lt-ltb 0 (c .third) (a .3))
-popped-is second c a f = cond-no _ _ (a .0) ∙ cond-no _ _ (le-ltb 0 (c .fourth) (let z = a .2 in omega arith)) ∙ cond-no _ _ (le-ltb 0 (c .third) (let z = a .3 in omega arith))
+popped-is own c a f = popped-own c (a .0)
+popped-is fourth c a f = popped-fourth c (a .0) (a .2)
+popped-is third c a f = popped-third c (a .0) (a .2) (a .3)
+popped-is second c a f = popped-second c (a .0) (a .2) (a .3)

@@ -15,7 +15,9 @@ use Rattle.kinds.specs.declared.Kind.the-variants.{Polygon, MultiPolygon, Colle
 use Rattle.kinds.specs.Kinds.{typeOf}
 use Rattle.wkb.specs.Standard.{Pair, Geometry, ringed, holding, Geometries, none, _then_, count, encodeRing, encode, encodeAll}
 use Rattle.wkb.specs.Steps.{kindFault, countFits, opened}
-use Rattle.sheet.specs.Reading.{Taken, reading}
+use Rattle.wkb.proofs.Allowed.{Allowed, allowed-member, allowed-part, polygon, parts, members}
+use Rattle.sheet.specs.Reading.{Taken}
+use Rattle.sheet.specs.Going.{reading}
 use Rattle.standard.specs.Limits.{memberOf, PolygonFits, FromTo, MemberFits, MembersFit, Each, PartFits}
 use Rattle.standard.proofs.Standard.Fields.{Bytes, heading, heading-is, heads}
 use Rattle.standard.proofs.Standard.Steps.{geometry-goes, GeometryRead, geometry-back}
@@ -26,7 +28,7 @@ use Rattle.standard.proofs.Standard.Pending.{Pending, pendingOutcome, t
 use Rattle.standard.proofs.Standard.Polygon.{ringsAt, withPolygon, polygon-good, polygon-outcome, polygon-stands, polygon-pends}
 use Rattle.standard.proofs.Standard.Entered.{put, entered, Children, Zero, got}
 use Rattle.standard.proofs.Standard.Holding.{holding-good, holding-outcome, holding-stands, holding-pends}
-use Rattle.standard.proofs.Standard.Opened.{slotAt, Whole, slot-at, at-level, count-allowed, allowed-count, polygon-allowed, polygon-opened, polygon-taken, parts-opened, deeper, members-opened, inside-deeper, zero-deeper, zero-parts, taking-closed, other-taken, slot-whole, parts-allowed, members-allowed, Allowed, allowed-member, allowed-part, polygon, parts, members}
+use Rattle.standard.proofs.Standard.Opened.{slotAt, Whole, slot-at, at-level, count-allowed, allowed-count, polygon-allowed, polygon-opened, polygon-taken, parts-opened, deeper, members-opened, inside-deeper, zero-deeper, zero-parts, taking-closed, other-taken, slot-whole, parts-allowed, members-allowed}
 
 -- What a geometry within the limits is, at each level.
 ringed-fits : (l : Level) (little : Bool) (kind : Kind) (rs : List (List Pair)) → Fits l (ringed little kind rs) → (kind ≡ Polygon) × PolygonFits rs

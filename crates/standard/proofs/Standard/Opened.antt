@@ -5,18 +5,18 @@ use mathlib.Core.Bool.{Bool, true, false, cond, _&&_, true≢false}
 use mathlib.Core.List.{List}
 use Prim.Native.Nat.{ℕ, _≤_, _<_}
 use native.Mathlib.Omega.{arith}
-use borrow.Author.Tests.{lt-ltb, le-ltb, le-leb, ne-eqb, eq-eqb, ltb-true, leb-true, eqb-true}
-use lib.Dec.{ltb, leb, eqb}
-use Rattle.whole.proofs.Tests.{by-equal}
+use borrow.Author.Tests.{lt-ltb, le-ltb, le-leb, ne-eqb, eq-eqb, leb-true}
+use lib.Dec.{leb, eqb}
 use Rattle.coordinate.proofs.Doubles.{and-true}
 use Rattle.wkb.specs.declared.Cursor.{Cursor}
 use Rattle.kinds.specs.declared.Slot.{Slot}
 use Rattle.kinds.specs.declared.Slot.the-variants.{Part, Member}
 use Rattle.wkb.specs.Steps.{slotOf, crowded, deep, kindFault, countFits, withRings, withParts, withMembers, fewerParts, opened}
+use Rattle.wkb.proofs.Complete.{Complete, not-complete}
 use Rattle.sheet.specs.Reading.{Taken, opening, begin}
 use Rattle.standard.specs.Limits.{FromTo}
 use Rattle.standard.proofs.Standard.Steps.{cond-yes, cond-no, AtGeometry}
-use Rattle.standard.proofs.Standard.Left.{Raw, Complete, not-complete}
+use Rattle.standard.proofs.Standard.Left.{Raw}
 use Rattle.standard.proofs.Standard.Levels.{Level, At, taking, begun, Inside, popped-is, part, own, second, third, fourth}
 use Rattle.standard.proofs.Standard.Polygon.{ringsAt, rings-at, withPolygon}
 use Rattle.standard.proofs.Standard.Entered.{entered, Zero}
@@ -195,28 +195,3 @@ parts-allowed c = refl
 pub members-allowed : (c : Cursor) → c .fourth ≡ 0 → kindFault Member c 7 ≡ 0
 unfolding kindFault deep
 members-allowed c z = rw (eq-eqb (c .fourth) 0 z) refl
-
--- ---- which types are let through
-pub data Allowed (c : Cursor) (k : ℕ) : Type 0 where
-  polygon : k ≡ 3 → c .polygons < 64 → Allowed c k
-  parts : k ≡ 6 → Allowed c k
-  members : k ≡ 7 → c .fourth ≡ 0 → Allowed c k
-
-crowded-then : (c : Cursor) → crowded c ≡ 0 → c .polygons < 64
-unfolding crowded
-crowded-then c = by-equal (λ (m : ℕ). m ≡ 0 → c .polygons < 64) (ltb (c .polygons) 64) _ _ (λ e h. ltb-true (c .polygons) 64 e) (λ e h. absurd (omega arith))
-
-deep-then : (c : Cursor) → deep c ≡ 0 → c .fourth ≡ 0
-unfolding deep
-deep-then c = by-equal (λ (m : ℕ). m ≡ 0 → c .fourth ≡ 0) (eqb (c .fourth) 0) _ _ (λ e h. eqb-true (c .fourth) 0 e) (λ e h. absurd (omega arith))
-
-pub allowed-member : (c : Cursor) (k : ℕ) → kindFault Member c k ≡ 0 → Allowed c k
-unfolding kindFault
-allowed-member c k =
-    by-equal (λ (m : ℕ). m ≡ 0 → Allowed c k) (eqb k 3) _ _ (λ e h. polygon (eqb-true k 3 e) (crowded-then c h))
-    (λ e. by-equal (λ (m : ℕ). m ≡ 0 → Allowed c k) (eqb k 6) _ _ (λ e h. parts (eqb-true k 6 e))
-    (λ e. by-equal (λ (m : ℕ). m ≡ 0 → Allowed c k) (eqb k 7) _ _ (λ e h. members (eqb-true k 7 e) (deep-then c h)) (λ e h. absurd (omega arith))))
-
-pub allowed-part : (c : Cursor) (k : ℕ) → kindFault Part c k ≡ 0 → (k ≡ 3) × (c .polygons < 64)
-unfolding kindFault
-allowed-part c k = by-equal (λ (m : ℕ). m ≡ 0 → (k ≡ 3) × (c .polygons < 64)) (eqb k 3) _ _ (λ e h. (eqb-true k 3 e, crowded-then c h)) (λ e h. absurd (omega arith))

@@ -13,9 +13,11 @@ use Rattle.plane.specs.Corners.{millimetres}
 use Rattle.coordinate.specs.Coordinate.{coordinateOf}
 use Rattle.coordinate.specs.declared.Coordinate.the-variants.{Whole}
 use Rattle.wkb.specs.declared.Cursor.{Cursor}
+use Rattle.wkb.specs.Places.{moved, pointsToCome}
 use Rattle.wkb.specs.Standard.{Pair, encodePoint, encodeRing}
 use Rattle.wkb.specs.Steps.{renewed, afterPoint}
-use Rattle.sheet.specs.Reading.{Taken, held, push, noted, pointing, reading}
+use Rattle.sheet.specs.Reading.{Taken, held, push, noted, pointing}
+use Rattle.sheet.specs.Going.{reading}
 use Rattle.standard.specs.Limits.{numberOf, pointOf}
 use Rattle.standard.proofs.Standard.Fields.{Bytes, Points, points}
 use Rattle.standard.proofs.Standard.Steps.{point-goes, point-back}
@@ -24,21 +26,7 @@ use Rattle.standard.proofs.Standard.Renewed.{renew-good, renew-stands, 
 
 -- The place after a point, before a complete member gives way to the next.
 abbrev pub passed : Cursor → Cursor
-passed c = record {
-  at = c .at + 16;
-  member = c .member;
-  members = c .members;
-  header = c .header;
-  second = c .second;
-  third = c .third;
-  fourth = c .fourth;
-  parts = c .parts;
-  rings = c .rings;
-  little = c .little;
-  points = c .points - 1;
-  polygons = c .polygons;
-  total = c .total;
-}
+passed c = pointsToCome (c .points - 1) (moved 16 c)
 
 abbrev pub withPoint : ℕ → ℕ → Taken → Taken
 withPoint x y b = push y (push x (noted x y b))

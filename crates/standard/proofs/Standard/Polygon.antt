@@ -9,40 +9,28 @@ use borrow.Author.Tests.{lt-ltb}
 use lib.ListN.{length, drop, set, length-map, length-set}
 use lib.Seq.{set-set, getD-set-same}
 use Rattle.wkb.specs.declared.Cursor.{Cursor}
+use Rattle.wkb.specs.Places.{moved, ringsToCome, ordered, polygonsBegun}
 use Rattle.kinds.specs.declared.Kind.the-variants.{Polygon}
 use Rattle.wkb.specs.Standard.{Pair, ringed, encodeRing, encode}
 use Rattle.wkb.specs.Steps.{withRings}
+use Rattle.wkb.proofs.Complete.{is-complete}
 use Rattle.sheet.specs.Numbers.{ringNumbers, partNumbers, memberNumbers}
-use Rattle.sheet.specs.Reading.{Taken, held}
+use Rattle.sheet.specs.Reading.{Taken, held, push, tally}
 use Rattle.standard.specs.Limits.{ringOf, memberOf, each, PolygonFits}
 use Rattle.standard.proofs.Standard.Fields.{heading, heading-is}
-use Rattle.standard.proofs.Standard.Left.{Left, leftBytes, leftOpen, Stands, Raw, Good, front, leftNumbers, outcome, millimetres-count, pushed, still-marked, is-complete}
+use Rattle.standard.proofs.Standard.Left.{Left, leftBytes, leftOpen, Stands, Raw, Good, front, leftNumbers, outcome, millimetres-count, pushed, still-marked}
 use Rattle.standard.proofs.Standard.Pending.{Pending, pendingOutcome}
 
 -- The place after a polygon's header, and what was taken then.
 abbrev pub ringsAt : ℕ → Bool → Cursor → Cursor
-ringsAt n little d = record {
-  at = d .at + 9;
-  member = d .member;
-  members = d .members;
-  header = d .header;
-  second = d .second;
-  third = d .third;
-  fourth = d .fourth;
-  parts = d .parts;
-  rings = n;
-  little = little;
-  points = d .points;
-  polygons = d .polygons + 1;
-  total = d .total;
-}
+ringsAt n little d = ringsToCome n (ordered little (polygonsBegun (d .polygons + 1) (moved 9 d)))
 
 pub rings-at : (n : ℕ) (little : Bool) (d : Cursor) → d .polygons < 64 → withRings true n little d ≡ ringsAt n little d
 unfolding withRings
 rings-at n little d h = rw (lt-ltb (d .polygons) 64 h) refl
 
 abbrev pub withPolygon : ℕ → Cursor → Taken → Taken
-withPolygon n d b = record { numbers = set (b .numbers) (b .mark) (held (d .polygons + 1)) ++ held n ∷ []; mark = b .mark; first = b .first; x = b .x; y = b .y }
+withPolygon n d b = push (held n) (tally (d .polygons + 1) b)
 
 module _ (s : List ℕ) (d : Cursor) (b : Taken) (r : Raw s d b) (closed : d .header ≡ false) (few : d .polygons < 64) (n : ℕ) (one : 1 ≤ n) (little : Bool) (nine : d .at + 9 ≤ length s) where
   pub polygon-good : Good s (ringsAt n little d) (withPolygon n d b)

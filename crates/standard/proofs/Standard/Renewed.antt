@@ -11,11 +11,13 @@ use lib.Seq.{set-getD}
 use Rattle.whole.proofs.Tests.{by-equal}
 use Rattle.coordinate.proofs.Doubles.{and-true}
 use Rattle.wkb.specs.declared.Cursor.{Cursor}
+use Rattle.wkb.specs.Places.{naming, headerToCome, polygonsBegun}
 use Rattle.wkb.specs.Standard.{Pair, count}
 use Rattle.wkb.specs.Steps.{complete, renewed, upTo}
+use Rattle.wkb.proofs.Complete.{Complete, is-complete}
 use Rattle.sheet.specs.Reading.{Taken}
 use Rattle.standard.specs.Limits.{membersOf}
-use Rattle.standard.proofs.Standard.Left.{Left, leftOpen, BelowAt, Stands, Raw, Good, front, outcome, Complete, is-complete, none-left}
+use Rattle.standard.proofs.Standard.Left.{Left, leftOpen, BelowAt, Stands, Raw, Good, front, outcome, none-left}
 
 -- ---- a complete member gives way to the next
 up-to : (n : ℕ) → n ≤ upTo 65 n
@@ -23,21 +25,7 @@ up-to n = by-equal (λ (m : ℕ). n ≤ m) (ltb n 65) _ _ (λ e. omega arith) (�
 
 -- The place of the next member.
 abbrev nextMember : Cursor → Cursor
-nextMember c = record {
-  at = c .at;
-  member = upTo 65 (c .member);
-  members = c .members - 1;
-  header = true;
-  second = c .second;
-  third = c .third;
-  fourth = c .fourth;
-  parts = c .parts;
-  rings = c .rings;
-  little = c .little;
-  points = c .points;
-  polygons = 0;
-  total = c .total;
-}
+nextMember c = headerToCome true (polygonsBegun 0 (naming (upTo 65 (c .member)) (c .members - 1) c))
 
 pub renew-good : (s : List ℕ) (c : Cursor) (b : Taken) → Raw s c b → Good s (renewed c) b
 unfolding renewed

@@ -9,15 +9,18 @@ use borrow.Author.Tests.{ne-eqb, le-leb, leb-true}
 use lib.ListN.{length, drop, getD, length-map}
 use Rattle.coordinate.proofs.Doubles.{and-true}
 use Rattle.wkb.specs.declared.Cursor.{Cursor}
+use Rattle.wkb.specs.Places.{moved, ringsToCome, pointsToCome, pointsCounted}
 use Rattle.little.specs.Ordered.{bytesOf}
 use Rattle.wkb.specs.Standard.{Pair, encodePoint, encodeRing}
 use Rattle.wkb.specs.Steps.{ringFits, withPoints}
+use Rattle.wkb.proofs.Complete.{is-complete}
 use Rattle.sheet.specs.Numbers.{pointNumbers, ringNumbers}
-use Rattle.sheet.specs.Reading.{Taken, held, ringing, reading}
+use Rattle.sheet.specs.Reading.{Taken, held, firstToCome, push, ringing}
+use Rattle.sheet.specs.Going.{reading}
 use Rattle.standard.specs.Limits.{pointOf, ringOf, RingFits}
 use Rattle.standard.proofs.Standard.Fields.{Bytes, Reads, reads}
 use Rattle.standard.proofs.Standard.Steps.{ring-goes, ring-back}
-use Rattle.standard.proofs.Standard.Left.{Left, leftBytes, leftOpen, lastOf, Closes, Stands, Raw, Good, front, leftNumbers, outcome, Ends, millimetres-count, pushed, still-marked, is-complete, Found, Through, Back}
+use Rattle.standard.proofs.Standard.Left.{Left, leftBytes, leftOpen, lastOf, Closes, Stands, Raw, Good, front, leftNumbers, outcome, Ends, millimetres-count, pushed, still-marked, Found, Through, Back}
 use Rattle.standard.proofs.Standard.Points.{no-header}
 
 pub regroup : (a b c d : List ℕ) → ((a ++ b) ++ c) ++ d ≡ a ++ (b ++ (c ++ d))
@@ -35,7 +38,7 @@ pub is-closed : (b : Taken) (p : Pair) (l : List Pair) (d : Pair) → b .first �
 is-closed b p l d f h = let e : suc (length l) - 1 ≡ length l = omega arith in rw (e, last-is p l d) (rw f at h)
 
 abbrev withRing : ℕ → Taken → Taken
-withRing n b = record { numbers = b .numbers ++ held n ∷ []; mark = b .mark; first = true; x = b .x; y = b .y }
+withRing n b = firstToCome (push (held n) b)
 
 ringing-member : (c : Cursor) (n : ℕ) (b : Taken) → 2 ≤ c .member → ringing c n b ≡ withRing n b
 unfolding ringing
@@ -43,21 +46,7 @@ ringing-member c n b h = rw (ne-eqb (c .member) 1 (λ e. absurd (omega arith))) 
 
 -- The place after a ring's count.
 abbrev counted : ℕ → Cursor → Cursor
-counted n c = record {
-  at = c .at + 4;
-  member = c .member;
-  members = c .members;
-  header = c .header;
-  second = c .second;
-  third = c .third;
-  fourth = c .fourth;
-  parts = c .parts;
-  rings = c .rings - 1;
-  little = c .little;
-  points = n;
-  polygons = c .polygons;
-  total = c .total + n;
-}
+counted n c = ringsToCome (c .rings - 1) (pointsToCome n (pointsCounted (c .total + n) (moved 4 c)))
 
 withPoints-member : (n : ℕ) (c : Cursor) → 2 ≤ c .member → withPoints n c ≡ counted n c
 unfolding withPoints

@@ -20,7 +20,8 @@ use Rattle.wkb.specs.declared.Step.{Step}
 use Rattle.little.specs.Ordered.{numberOf, bytesOf, field, remains, wordAt, doubleAt}
 use Rattle.wkb.specs.Standard.{Pair, order, encodePoint}
 use Rattle.wkb.specs.Steps.{slotOf, complete, kindFault, countFits, opened, geometryAt, ringFits, withPoints, ringAt, afterPoint, pointAt, endAt, stepAt}
-use Rattle.sheet.specs.Reading.{Taken, Reading, Turn, on, over, opening, ringing, noted, pointing, judged, taken, turn, reading}
+use Rattle.sheet.specs.Reading.{Taken, Reading, Turn, on, over, opening, ringing, noted, pointing, judged, taken, turn}
+use Rattle.sheet.specs.Going.{reading}
 use Rattle.sheet.proofs.Run.{reading-turns}
 use Rattle.standard.proofs.Standard.Fields.{Bytes, Reads, written, number-fits, heading, Heads, order-said, said-order, headed, Points, pointed}
 

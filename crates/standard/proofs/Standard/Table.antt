@@ -11,14 +11,17 @@ use lib.ListN.{length, drop, length-drop, drop-of-length-le}
 use Rattle.whole.specs.Sums.{All}
 use Rattle.plane.specs.Corners.{millimetres}
 use Rattle.wkb.specs.declared.Cursor.{Cursor}
+use Rattle.wkb.specs.Places.{naming, headerToCome, polygonsBegun}
 use Rattle.wkb.specs.Standard.{Pair, Geometries, none, _then_, count, encodePoint, encodeRing, encodeAll}
 use Rattle.wkb.specs.Steps.{complete, renewed}
+use Rattle.wkb.proofs.Complete.{Complete, is-complete, complete-is}
 use Rattle.sheet.specs.Numbers.{pointNumbers, triangleNumbers, memberNumbers}
-use Rattle.sheet.specs.Reading.{Taken, reading}
+use Rattle.sheet.specs.Reading.{Taken}
+use Rattle.sheet.specs.Going.{reading}
 use Rattle.standard.specs.Limits.{pointOf, memberOf, membersOf, triangleOf, each, RingFits, PieceFits, Each, MembersFit, allLengths}
 use Rattle.standard.proofs.Standard.Fields.{Bytes}
 use Rattle.standard.proofs.Standard.Steps.{cond-no, end-goes, end-back}
-use Rattle.standard.proofs.Standard.Left.{Left, leftBytes, leftOpen, Top, Closes, PointFits, Good, front, leftNumbers, outcome, Ends, Complete, is-complete, complete-is, none-left, no-list}
+use Rattle.standard.proofs.Standard.Left.{Left, leftBytes, leftOpen, Top, Closes, PointFits, Good, front, leftNumbers, outcome, Ends, none-left, no-list}
 use Rattle.standard.proofs.Standard.Induction.{members-through, members-back}
 
 -- All but the last.
@@ -76,21 +79,7 @@ renewed-last c e = go (complete c) _
 
 -- The place of the first member.
 abbrev firstMember : Cursor → Cursor
-firstMember c = record {
-  at = c .at;
-  member = 2;
-  members = c .members - 1;
-  header = true;
-  second = c .second;
-  third = c .third;
-  fourth = c .fourth;
-  parts = c .parts;
-  rings = c .rings;
-  little = c .little;
-  points = c .points;
-  polygons = 0;
-  total = c .total;
-}
+firstMember c = headerToCome true (polygonsBegun 0 (naming 2 (c .members - 1) c))
 
 renewed-first : (c : Cursor) → complete c ≡ true → c .member ≡ 1 → 0 < c .members → renewed c ≡ firstMember c
 unfolding renewed

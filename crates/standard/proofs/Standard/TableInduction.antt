@@ -6,7 +6,8 @@ use native.Mathlib.Omega.{arith}
 use lib.ListN.{length}
 use Rattle.wkb.specs.declared.Cursor.{Cursor}
 use Rattle.wkb.specs.Standard.{Pair, Geometries, none, _then_}
-use Rattle.sheet.specs.Reading.{Taken, reading}
+use Rattle.sheet.specs.Reading.{Taken}
+use Rattle.sheet.specs.Going.{reading}
 use Rattle.standard.proofs.Standard.Fields.{Bytes}
 use Rattle.standard.proofs.Standard.Left.{Ends}
 use Rattle.standard.proofs.Standard.Table.{InTable, TableStands, tableOutcome}

@@ -12,18 +12,21 @@ use lib.ListN.{length, drop}
 use Rattle.whole.specs.Sums.{All}
 use Rattle.plane.specs.Corners.{millimetres}
 use Rattle.wkb.specs.declared.Cursor.{Cursor}
+use Rattle.wkb.specs.Places.{moved, partsToCome, ringsToCome, ordered}
 use Rattle.kinds.specs.declared.Slot.the-variants.{Piece}
 use Rattle.kinds.specs.declared.Kind.{Kind}
 use Rattle.kinds.specs.declared.Kind.the-variants.{Polygon, MultiPolygon, Collection, Tin, Triangle as Three}
 use Rattle.kinds.specs.Kinds.{typeOf}
 use Rattle.wkb.specs.Standard.{Pair, Geometry, ringed, holding, Geometries, _then_, count, encodeRing, encode, encodeAll}
 use Rattle.wkb.specs.Steps.{slotOf, kindFault, countFits, withRings, fewerParts, opened}
+use Rattle.wkb.proofs.Complete.{not-complete}
 use Rattle.sheet.specs.Numbers.{triangleNumbers}
-use Rattle.sheet.specs.Reading.{Taken, opening, reading}
+use Rattle.sheet.specs.Reading.{Taken, opening}
+use Rattle.sheet.specs.Going.{reading}
 use Rattle.standard.specs.Limits.{triangleOf, each, RingFits}
 use Rattle.standard.proofs.Standard.Fields.{Bytes, heading, heading-is, heads}
 use Rattle.standard.proofs.Standard.Steps.{AtGeometry, geometry-goes, geometry-back}
-use Rattle.standard.proofs.Standard.Left.{Ends, not-complete, no-list}
+use Rattle.standard.proofs.Standard.Left.{Ends, no-list}
 use Rattle.standard.proofs.Standard.Rings.{regroup}
 use Rattle.standard.proofs.Standard.Table.{cornersOf, InTable, TableStands, membersOutcome, tableOutcome}
 use Rattle.standard.proofs.Standard.TablePoints.{TableFound, TableThrough, TableBack}
@@ -31,21 +34,7 @@ use Rattle.standard.proofs.Standard.TablePoints.{TableFound, TableThrou
 -- ---- a piece's header
 -- The place after it.
 abbrev pieceAt : ℕ → Bool → Cursor → Cursor
-pieceAt n little c = record {
-  at = c .at + 9;
-  member = c .member;
-  members = c .members;
-  header = c .header;
-  second = c .second;
-  third = c .third;
-  fourth = c .fourth;
-  parts = c .parts - 1;
-  rings = n;
-  little = little;
-  points = c .points;
-  polygons = c .polygons;
-  total = c .total;
-}
+pieceAt n little c = partsToCome (c .parts - 1) (ringsToCome n (ordered little (moved 9 c)))
 
 piece-opened : (c : Cursor) (little : Bool) (kind n : ℕ) → opened Piece c little kind n ≡ pieceAt n little c
 unfolding opened withRings fewerParts

@@ -13,12 +13,14 @@ use Rattle.plane.specs.Corners.{millimetres}
 use Rattle.wkb.specs.declared.Cursor.{Cursor}
 use Rattle.wkb.specs.Standard.{Pair, Geometries, none, _then_, count, encodePoint, encodeRing, encodeAll}
 use Rattle.wkb.specs.Steps.{renewed, afterPoint}
+use Rattle.wkb.proofs.Complete.{Complete, not-complete}
 use Rattle.sheet.specs.Numbers.{triangleNumbers}
-use Rattle.sheet.specs.Reading.{Taken, held, push, noted, lastOfTable, pointing, reading}
+use Rattle.sheet.specs.Reading.{Taken, held, push, noted, lastOfTable, pointing}
+use Rattle.sheet.specs.Going.{reading}
 use Rattle.standard.specs.Limits.{numberOf, triangleOf, each}
 use Rattle.standard.proofs.Standard.Fields.{Bytes, Points, points}
 use Rattle.standard.proofs.Standard.Steps.{point-goes, PointRead, point-back}
-use Rattle.standard.proofs.Standard.Left.{Closes, Ends, millimetres-count, Complete, not-complete, no-list}
+use Rattle.standard.proofs.Standard.Left.{Closes, Ends, millimetres-count, no-list}
 use Rattle.standard.proofs.Standard.Points.{passed, withPoint, number-is, closes-next, closes-back}
 use Rattle.standard.proofs.Standard.Table.{cornersOf, InTable, TableStands, membersOutcome, tableOutcome, renewed-not, after-through, after-back}
 

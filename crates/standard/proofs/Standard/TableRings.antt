@@ -8,11 +8,13 @@ use borrow.Author.Tests.{eq-eqb, eqb-true}
 use lib.IntN.{pos}
 use lib.ListN.{length, drop, getD}
 use Rattle.wkb.specs.declared.Cursor.{Cursor}
+use Rattle.wkb.specs.Places.{moved, ringsToCome, pointsToCome}
 use Rattle.little.specs.Ordered.{bytesOf}
 use Rattle.wkb.specs.Standard.{Pair, Geometries, count, encodePoint, encodeRing, encodeAll}
 use Rattle.wkb.specs.Steps.{ringFits, withPoints}
 use Rattle.sheet.specs.Numbers.{triangleNumbers}
-use Rattle.sheet.specs.Reading.{Taken, ringing, reading}
+use Rattle.sheet.specs.Reading.{Taken, firstToCome, ringing}
+use Rattle.sheet.specs.Going.{reading}
 use Rattle.standard.specs.Limits.{pointOf, triangleOf, each, RingFits}
 use Rattle.standard.proofs.Standard.Fields.{Bytes, reads}
 use Rattle.standard.proofs.Standard.Steps.{ring-goes, ring-back}
@@ -22,32 +24,15 @@ use Rattle.standard.proofs.Standard.Table.{cornersOf, InTable, TableSta
 use Rattle.standard.proofs.Standard.TablePoints.{TableFound, TableThrough, TableBack}
 
 -- ---- a ring's count
--- The place after it, and what was taken then.
+-- The place after it.
 abbrev countedAt : ℕ → Cursor → Cursor
-countedAt n c = record {
-  at = c .at + 4;
-  member = c .member;
-  members = c .members;
-  header = c .header;
-  second = c .second;
-  third = c .third;
-  fourth = c .fourth;
-  parts = c .parts;
-  rings = c .rings - 1;
-  little = c .little;
-  points = n;
-  polygons = c .polygons;
-  total = c .total;
-}
-
-abbrev opensRing : Taken → Taken
-opensRing b = record { numbers = b .numbers; mark = b .mark; first = true; x = b .x; y = b .y }
+countedAt n c = ringsToCome (c .rings - 1) (pointsToCome n (moved 4 c))
 
 counted-is : (n : ℕ) (c : Cursor) → c .member ≡ 1 → withPoints n c ≡ countedAt n c
 unfolding withPoints
 counted-is n c m = rw (eq-eqb (c .member) 1 m) refl
 
-ringing-is : (c : Cursor) (n : ℕ) (b : Taken) → c .member ≡ 1 → ringing c n b ≡ opensRing b
+ringing-is : (c : Cursor) (n : ℕ) (b : Taken) → c .member ≡ 1 → ringing c n b ≡ firstToCome b
 unfolding ringing
 ringing-is c n b m = rw (eq-eqb (c .member) 1 m) refl
 
@@ -62,13 +47,13 @@ allowed-ring c n m e = eqb-true n 4 (rw (eq-eqb (c .member) 1 m) at e)
 counted-in : (s : List ℕ) (c : Cursor) (n : ℕ) → InTable s c → c .at + 4 ≤ length s → InTable s (countedAt n c)
 counted-in s c n t h = record { within = h; member = t .member; no-header = t .no-header; no-second = t .no-second; no-third = t .no-third; no-fourth = t .no-fourth; total = t .total }
 
-ring-closes : (b : Taken) (r : List Pair) → RingFits 4 4 r → Closes (opensRing b) r
+ring-closes : (b : Taken) (r : List Pair) → RingFits 4 4 r → Closes (firstToCome b) r
 ring-closes b [] f = tt
-ring-closes b (p ∷ l) f = closed-is (opensRing b) p l _ refl (f .closed)
+ring-closes b (p ∷ l) f = closed-is (firstToCome b) p l _ refl (f .closed)
 
-closes-ring : (b : Taken) (r : List Pair) → Closes (opensRing b) r → pointOf (getD r (length r - 1) (record { x = 0; y = 0 })) ≡ pointOf (getD r 0 (record { x = 0; y = 0 }))
+closes-ring : (b : Taken) (r : List Pair) → Closes (firstToCome b) r → pointOf (getD r (length r - 1) (record { x = 0; y = 0 })) ≡ pointOf (getD r 0 (record { x = 0; y = 0 }))
 closes-ring b [] f = refl
-closes-ring b (p ∷ l) f = is-closed (opensRing b) p l _ refl f
+closes-ring b (p ∷ l) f = is-closed (firstToCome b) p l _ refl f
 
 pub table-ring-through : (s : List ℕ) (c : Cursor) (b : Taken) (r : List Pair) (rs : List (List Pair)) (gs ms : Geometries) → InTable s c → TableStands s c b [] (r ∷ rs) gs ms → TableThrough s c
     → Ends (reading s c b) (tableOutcome b [] (r ∷ rs) gs ms)
@@ -87,7 +72,7 @@ table-ring-through s c b r rs gs ms t h later =
       ringing-is c n b (t .member),
       append-assoc (cornersOf r) (flatMap cornersOf rs) (flatMap triangleNumbers (each triangleOf gs) ++ (pos (count ms) ∷ membersOutcome ms)),
     )
-    (later (countedAt n c) (opensRing b) r rs gs ms (omega arith) (counted-in s c n t (q .fits)) (omega arith) (record {
+    (later (countedAt n c) (firstToCome b) r rs gs ms (omega arith) (counted-in s c n t (q .fits)) (omega arith) (record {
       points-number = refl;
       rings-number = let m = h .rings-number in omega arith;
       pieces-number = h .pieces-number;
@@ -102,7 +87,7 @@ table-ring-through s c b r rs gs ms t h later =
     }))
 
 ring-stood : (s : List ℕ) (c : Cursor) (b : Taken) (n : ℕ) (ps : List Pair) (rs : List (List Pair)) (gs ms : Geometries) → c .points ≡ 0 → 0 < c .rings → n ≡ 4
-    → drop (c .at) s ≡ bytesOf (c .little) 4 n ++ drop (c .at + 4) s → TableStands s (countedAt n c) (opensRing b) ps rs gs ms → TableStands s c b [] (ps ∷ rs) gs ms
+    → drop (c .at) s ≡ bytesOf (c .little) 4 n ++ drop (c .at + 4) s → TableStands s (countedAt n c) (firstToCome b) ps rs gs ms → TableStands s c b [] (ps ∷ rs) gs ms
 unfolding flatMap encodeRing
 ring-stood s c b n ps rs gs ms z some four e h =
     let m = h .points-number in
@@ -126,5 +111,5 @@ table-ring-return s c b bytes t z some code later =
     let k = ring-back s c b bytes z some code in
     let n = k .n in
     let four = allowed-ring c n (t .member) (k .allowed) in
-    let v = later (countedAt n c) (opensRing b) (omega arith) (counted-in s c n t (k .fits)) (omega arith) (rw (counted-is n c (t .member), ringing-is c n b (t .member)) at (k .on-with)) in
+    let v = later (countedAt n c) (firstToCome b) (omega arith) (counted-in s c n t (k .fits)) (omega arith) (rw (counted-is n c (t .member), ringing-is c n b (t .member)) at (k .on-with)) in
     ([], v .0 ∷ v .1, v .2, v .3, ring-stood s c b n (v .0) (v .1) (v .2) (v .3) z some four (k .bytes) (v .4))

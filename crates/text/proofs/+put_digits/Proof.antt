@@ -1,12 +1,8 @@
 -- `text::put_digits`, which calls itself, meets its contract. Its tenth has one digit less. What `most` allows falls. Assumes nothing.
-use mathlib.Core.Path.{sym, ap, _∙_}
-use mathlib.Core.List.{List, _++_}
 use native.Mathlib.Omega.{arith}
 use borrow.Author.Needs.{needs}
-use lib.ListN.{take}
-use Rattle.text.specs.Text.{digits}
-use Rattle.text.proofs.Texts.{and-then, room-for-two, tenth-below, one-digit, last-digit}
-use Prim.Native.Nat.{ℕ, _-_, _/_, _<_}
+use Rattle.text.proofs.Texts.{put-behind, room-for-two, tenth-below, one-digit, last-digit}
+use Prim.Native.Nat.{ℕ, _<_}
 use borrow.Fn.Kinds.{In}
 use borrow.Fn.PlainCycle.{Measures, is, falls, and}
 use Rattle.text.proofs.put_digits.Reads as put-digits
@@ -67,9 +63,10 @@ put-digits-returns : (t : ℕ) → put-digits-lts.Need-returns (
 ) (put-digits-at t) put-digits.Post
 put-digits-returns t c =
     let a = c .before .before .before .before .before .before .args in
+    let p = c .before .before .before .before .before .before .pre .1 in
     let e = c .before .before .put .ensures in (
-      omega (arith, c .before .before .before .before .before .before .pre .1 .0, e .0),
-      e .1 ∙ ap (λ (r : List ℕ). take (a .at) (a .text .now) ++ r) (sym (one-digit (a .most) (a .n) (c .before .before .before .before .before .before .pre .1 .0) (c .before .before .before .before .if1 .taken))),
+      omega (arith, p .0, e .place),
+      rw (one-digit (a .most) (a .n) (p .0) (c .before .before .before .before .if1 .taken)) e,
     )
 
 put-digits-sub-put-digits : (t : ℕ) → put-digits-lts.Need-sub-put-digits (
@@ -138,11 +135,11 @@ put-digits-returns-2 : (t : ℕ) → put-digits-lts.Need-returns-2 (
 ) (put-digits-at t) put-digits.Post
 put-digits-returns-2 t c =
     let a = c .before .before .before .before .before .before .before .before .before .before .args in
+    let p = c .before .before .before .before .before .before .before .before .before .before .pre .1 in
     let d = c .before .before .before .before .before .before .put-digits .ensures in
     let e = c .before .before .put2 .ensures in (
-      omega (arith, c .before .before .before .before .before .before .before .before .before .before .pre .1 .0, d .0, e .0),
-      e .1 ∙ and-then (take (a .at) (a .text .now)) (digits (a .most - 1) (a .n / 10)) _ (d .1)
-          ∙ ap (λ (r : List ℕ). take (a .at) (a .text .now) ++ r) (sym (last-digit (a .most) (a .n) (c .before .before .before .before .before .before .before .before .before .before .pre .1 .0) (c .before .before .before .before .before .before .before .before .if1 .left))),
+      omega (arith, p .0, d .0, e .place),
+      rw (last-digit (a .most) (a .n) (p .0) (c .before .before .before .before .before .before .before .before .if1 .left)) (put-behind (omega (arith, p .1)) (d .1) e),
     )
 
 pub +put-digits-spec : {M : Type 1} → statement M

@@ -1,7 +1,7 @@
 -- `text::put` meets its contract. Assumes nothing.
 use mathlib.Core.Path.{refl}
 use borrow.Author.Needs.{needs}
-use Rattle.text.proofs.Texts.{byte-behind}
+use Rattle.text.proofs.Texts.{byte-put}
 use Rattle.text.proofs.put.Statement.{statement}
 use Rattle.text.proofs.put.Tie as tie
 
@@ -15,7 +15,7 @@ same-length : tie.Need-same-length
 same-length c = search needs
 
 returns : tie.Need-returns
-returns c = (refl, byte-behind _ _ _ (c .pre))
+returns c = record { place = refl; text = byte-put _ _ _ (c .pre) }
 
 pub put-spec : {M : Type 1} → statement M
 put-spec = tie.close (tie.spec slice-write-text add-result same-length returns)

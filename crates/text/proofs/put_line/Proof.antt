@@ -1,11 +1,7 @@
 -- `text::put_line` meets its contract: each part stands behind those before it. Assumes nothing.
-use mathlib.Core.Path.{_∙_}
-use mathlib.Core.List.{[], _∷_, _++_}
 use native.Mathlib.Omega.{arith}
 use borrow.Author.Needs.{needs}
-use lib.ListN.{take}
-use Rattle.text.specs.Text.{decimal}
-use Rattle.text.proofs.Texts.{and-then, next-field}
+use Rattle.text.proofs.Texts.{put-behind}
 use Rattle.text.proofs.put_line.Statement.{statement}
 use Rattle.text.proofs.put_line.Tie as tie
 
@@ -32,15 +28,19 @@ same-length c = search needs
 
 returns : tie.Need-returns
 returns c =
-    let g = c .before .before .before .before .before .before .before .before .before .before .before .before .before .before .before .before .before .before .before .before .before .before .before .before .before .before .args in
-    let q = take (g .at) (g .text .now) in
-    let w = g .word .now in
-    let a = decimal (g .a) in
-    let b = decimal (g .b) in
-    let one = next-field q w 32 a (c .before .before .before .before .before .before .before .before .before .before .before .before .before .before .before .before .before .before .before .before .before .before .put-word .ensures .1) (c .before .before .before .before .before .before .before .before .before .before .before .before .before .before .before .before .before .before .put .ensures .1) (c .before .before .before .before .before .before .before .before .before .before .before .before .before .before .put-number .ensures .1) in
-    let two = next-field q (w ++ 32 ∷ a) 32 b one (c .before .before .before .before .before .before .before .before .before .before .put2 .ensures .1) (c .before .before .before .before .before .before .put-number2 .ensures .1) in (
-      omega (arith, c .before .before .before .before .before .before .before .before .before .before .before .before .before .before .before .before .before .before .before .before .before .before .put-word .ensures .0, c .before .before .before .before .before .before .before .before .before .before .before .before .before .before .before .before .before .before .put .ensures .0, c .before .before .before .before .before .before .before .before .before .before .before .before .before .before .put-number .ensures .0, c .before .before .before .before .before .before .before .before .before .before .put2 .ensures .0, c .before .before .before .before .before .before .put-number2 .ensures .0, c .before .before .put3 .ensures .0),
-      c .before .before .put3 .ensures .1 ∙ and-then q (w ++ 32 ∷ a ++ 32 ∷ b) (10 ∷ []) two,
+    let word = c .before .before .before .before .before .before .before .before .before .before .before .before .before .before .before .before .before .before .before .before .before .before .put-word in
+    let blank = c .before .before .before .before .before .before .before .before .before .before .before .before .before .before .before .before .before .before .put in
+    let one = c .before .before .before .before .before .before .before .before .before .before .before .before .before .before .put-number in
+    let blank2 = c .before .before .before .before .before .before .before .before .before .before .put2 in
+    let two = c .before .before .before .before .before .before .put-number2 in
+    let feed = c .before .before .put3 in
+    let p = c .before .before .before .before .before .before .before .before .before .before .before .before .before .before .before .before .before .before .before .before .before .before .before .before .before .before .pre in (
+      omega (arith, word .ensures .place, blank .ensures .place, one .ensures .0, blank2 .ensures .place, two .ensures .0, feed .ensures .place),
+      put-behind (omega arith)
+          (put-behind (omega arith)
+          (put-behind (omega arith) (word .ensures) (put-behind (omega (arith, word .ensures .place, word .kept .0)) (blank .ensures) (one .ensures .1)))
+          (put-behind (omega (arith, word .ensures .place, blank .ensures .place, one .ensures .0, word .kept .0, blank .kept .0, one .kept .0)) (blank2 .ensures) (two .ensures .1)))
+          (feed .ensures),
     )
 
 pub put-line-spec : {M : Type 1} → statement M

@@ -1,24 +1,24 @@
--- `text::put_word` meets its contract. The invariant: the bytes that were read stand behind the first `at`. Assumes nothing.
-use mathlib.Core.Path.{_≡_, refl, sym, ap, subst, _∙_}
-use mathlib.Core.List.{List, _++_, append-nil}
-use Prim.Native.Nat.{ℕ, _+_, _-_, _≤_}
-use native.Mathlib.Nat.{add-zero}
+-- `text::put_word` meets its contract. The invariant: the first i bytes of the word are copied in behind the first `at` of the text. Assumes nothing.
+use mathlib.Core.Path.{_≡_, refl, sym, ap, _∙_}
+use Prim.Native.Nat.{_+_, _-_, _≤_}
+use native.Mathlib.Numerals.{add-one}
 use native.Mathlib.Omega.{arith}
 use borrow.Author.Needs.{needs}
-use lib.ListN.{length, take, length-set}
-use lib.Seq.{take-all}
-use Rattle.text.proofs.Texts.{word-grows}
+use denote.Ref.{now}
+use lib.ListN.{length, getD, set, length-set}
+use lib.Seq.{paste, paste-zero, paste-suc}
+use Rattle.text.proofs.Texts.{word-put}
 use Rattle.text.proofs.put_word.Statement.{statement}
 use Rattle.text.proofs.put_word.Tie as tie
 
 abbrev Inv-loop : tie.InvT-loop
-Inv-loop text₀ at word i₀ text i = (i ≤ length word) × (length text ≡ length text₀) × (take (at + i) text ≡ take at text₀ ++ take i word)
+Inv-loop text₀ at word i₀ text i = (i ≤ length word) × (length text ≡ length text₀) × (text ≡ paste text₀ at word i)
 
 abbrev μ-loop : tie.MeasureT-loop
 μ-loop text₀ at word i₀ text i = length word - i
 
 loop-holds : tie.Need-loop-holds Inv-loop μ-loop
-loop-holds c = (omega arith, refl, ap (λ (k : ℕ). take k (c .args .text .now)) (add-zero (c .args .at)) ∙ sym (append-nil (take (c .args .at) (c .args .text .now))))
+loop-holds c = (omega arith, refl, paste-zero (now (c .args .text)) (c .args .at) (now (c .args .word)))
 
 shared-slice-read-text : tie.Need-shared-slice-read-text Inv-loop μ-loop
 shared-slice-read-text c = search needs
@@ -37,10 +37,14 @@ loop-less c = search needs
 
 loop-again : tie.Need-loop-again Inv-loop μ-loop
 loop-again c =
-    let l = c .before .before .loop in (
+    let l = c .before .before .loop in
+    let a = c .before .before .before .args in
+    let x = getD (now (a .word)) (l .i) 0 in (
       omega arith,
       length-set (l .text) _ _ ∙ l .inv .1,
-      word-grows (l .text) _ _ _ (l .i) (omega (arith, c .before .before .before .pre, l .inv .1, c .before .loop-test)) (omega (arith, c .before .loop-test)) (l .inv .2),
+      ap (λ t. set t (a .at + l .i) x) (l .inv .2)
+          ∙ paste-suc (now (a .text)) (a .at) (now (a .word)) (l .i) 0 (omega (arith, c .before .before .before .pre, c .before .loop-test)) (omega (arith, c .before .loop-test))
+          ∙ ap (paste (now (a .text)) (a .at) (now (a .word))) (sym (add-one (l .i))),
     )
 
 add-result : tie.Need-add-result Inv-loop μ-loop
@@ -52,8 +56,8 @@ same-length c = search needs
 returns : tie.Need-returns Inv-loop μ-loop
 returns c =
     let l = c .before .loop in
-    let e : l .i ≡ length (c .before .before .args .word .now) = omega (arith, l .inv .0, c .loop-test) in
-    (refl, subst (λ (k : ℕ). take (c .before .before .args .at + k) (l .text) ≡ take (c .before .before .args .at) (c .before .before .args .text .now) ++ c .before .before .args .word .now) e (l .inv .2 ∙ ap (λ (r : List ℕ). take (c .before .before .args .at) (c .before .before .args .text .now) ++ r) (take-all (l .i) (c .before .before .args .word .now) (omega (arith, e)))))
+    let a = c .before .before .args in
+    record { place = refl; text = l .inv .2 ∙ word-put (now (a .text)) (now (a .word)) (a .at) (l .i) (omega (arith, l .inv .0, c .loop-test)) }
 
 pub put-word-spec : {M : Type 1} → statement M
 put-word-spec =

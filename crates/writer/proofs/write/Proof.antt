@@ -6,7 +6,8 @@ use Prim.Native.Nat.{_≤_}
 use lib.ListN.{length}
 use Rattle.written.specs.Given.{sheetGiven}
 use Rattle.written.specs.Normal.{written}
-use Rattle.written.proofs.Sized.{written-small, given-fits}
+use Rattle.written.proofs.Given.{given-fits}
+use Rattle.written.proofs.Sized.{written-small}
 use Rattle.written.proofs.Outcomes.{none-given, too-long, written-over}
 use Rattle.whole.proofs.Tests.{turned-off, turned-on}
 use Rattle.writer.proofs.Gives.{given-odd, given-long, ended-ill, ended-well, written-again, stored}

@@ -3,7 +3,7 @@ use borrow.Author.Needs.{needs}
 use borrow.Author.Tests.{eq-eqb, ne-eqb}
 use mathlib.Core.Path.{_∙_}
 use Rattle.wkb.specs.Steps.{opened, fewerParts}
-use Rattle.wkb.proofs.Steps.{popped-at}
+use Rattle.wkb.proofs.Steps.{pops}
 use Rattle.wkb.proofs.Cursor.opened.Statement.{statement}
 use Rattle.wkb.proofs.Cursor.opened.Tie as tie
 
@@ -20,7 +20,7 @@ popped-requires : tie.Need-popped-requires
 popped-requires c κs = search needs
 
 with-parts-requires : tie.Need-with-parts-requires
-with-parts-requires c κs = let a = c .before .before .before in rw (c .popped .ensures, popped-at (a .args .self)) (a .pre .0)
+with-parts-requires c κs = let a = c .before .before .before in rw (c .popped .ensures, pops (a .args .self) .at) (a .pre .0)
 
 enum-told-3 : tie.Need-enum-told-3
 enum-told-3 c = search needs
@@ -49,19 +49,19 @@ popped-requires-2 : tie.Need-popped-requires-2
 popped-requires-2 c κs = search needs
 
 with-rings-requires-3 : tie.Need-with-rings-requires-3
-with-rings-requires-3 c κs = let a = c .before .before .before .before in rw (c .popped2 .ensures, popped-at (a .args .self)) (a .pre .0)
+with-rings-requires-3 c κs = let a = c .before .before .before .before in rw (c .popped2 .ensures, pops (a .args .self) .at) (a .pre .0)
 
 popped-requires-3 : tie.Need-popped-requires-3
 popped-requires-3 c κs = search needs
 
 with-parts-requires-2 : tie.Need-with-parts-requires-2
-with-parts-requires-2 c κs = let a = c .before .before .before .before .before in rw (c .popped3 .ensures, popped-at (a .args .self)) (a .pre .0)
+with-parts-requires-2 c κs = let a = c .before .before .before .before .before in rw (c .popped3 .ensures, pops (a .args .self) .at) (a .pre .0)
 
 popped-requires-4 : tie.Need-popped-requires-4
 popped-requires-4 c κs = search needs
 
 with-members-requires : tie.Need-with-members-requires
-with-members-requires c κs = let a = c .before .before .before .before .before in rw (c .popped4 .ensures, popped-at (a .args .self)) (a .pre .0)
+with-members-requires c κs = let a = c .before .before .before .before .before in rw (c .popped4 .ensures, pops (a .args .self) .at) (a .pre .0)
 
 returns : tie.Need-returns
 unfolding opened
