@@ -12,10 +12,8 @@ import subprocess
 import sys
 import tempfile
 
-import frames
-from listing import text
-from owning import grid
-from reading import collection, of
+import independent
+from tally import tally
 
 ROOT = os.path.dirname(os.path.dirname(os.path.abspath(__file__)))
 CUT = 65_536
@@ -44,16 +42,15 @@ def run(folder, *words, env=None):
 
 
 def sheets(folder):
-    """The examples, one that is as long as can be read, and one that is cut, each with what is printed."""
+    """The examples, a sheet that is as long as can be read, and a longer one, of which only so much is read; and what is printed for all."""
     paths = sorted(glob.glob(os.path.join(folder, "examples", "*.wkb")))
     listings = [open(path[:-4] + ".txt", encoding="ascii").read() for path in paths]
-    table = collection(of(grid(list(range(33)), list(range(17)))))
-    for name, sheet in (("full", table[:CUT]), ("cut", table)):
-        paths.append(os.path.join(folder, name + ".wkb"))
-        listings.append(text(sheet[:CUT]))
-        with open(paths[-1], "wb") as f:
-            f.write(sheet)
-    return paths, "".join(listings)
+    full, longer = (os.path.join(folder, name) for name in ("full.wkb", "a table of 1,024 triangles.wkb"))
+    independent.cases(folder)
+    with open(longer, "rb") as f, open(full, "wb") as g:
+        g.write(f.read(CUT))
+    (_, listing), = independent.answers([full])
+    return [*paths, full, longer], "".join(listings) + 2 * "".join(line + "\n" for line in listing)
 
 
 def quick(folder, kit):
@@ -112,7 +109,7 @@ def main():
         os.chmod(folder, 0o755)
         clone(folder)
         outcomes = refused(folder, kit) + quick(folder, kit) + first_crate(folder) + proved(folder)
-    return frames.tally(outcomes)
+    return tally(outcomes)
 
 
 if __name__ == "__main__":

@@ -9,7 +9,7 @@ import subprocess
 import sys
 import tempfile
 
-import frames
+from tally import tally
 
 ROOT = os.path.dirname(os.path.dirname(os.path.abspath(__file__)))
 BLOCK = re.compile(r"^```(\w+)(?: (\S+))?\n(.*?)^```$", re.M | re.S)
@@ -37,7 +37,7 @@ def main():
     with open(os.path.join(ROOT, "README.md"), encoding="utf-8") as f:
         sections = f.read().split("\n## ")
     projects = [section for section in sections if re.match(r"In a .* project\n", section)]
-    return frames.tally([len(projects) == 2, *map(project, projects)])
+    return tally([len(projects) == 2, *map(project, projects)])
 
 
 if __name__ == "__main__":

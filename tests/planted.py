@@ -14,7 +14,7 @@ import shutil
 import subprocess
 import sys
 
-import frames
+from tally import tally
 
 ROOT = os.path.dirname(os.path.dirname(os.path.abspath(__file__)))
 BUILD = os.path.join(ROOT, "target", "hosts", "planted")
@@ -122,7 +122,7 @@ def main(differ, checker, gate, folder):
     chosen = {name: [edit for edit in edits() if part_of(edit[1])[1] == name] for name in ("cpp", "rust")}
     with concurrent.futures.ThreadPoolExecutor() as pool:
         begun = [pool.submit(Copy(name, differ, checker, gate, folder).outcomes, some) for name, some in chosen.items()]
-        return frames.tally([all(chosen.values())] + [outcome for each in begun for outcome in each.result()])
+        return tally([all(chosen.values())] + [outcome for each in begun for outcome in each.result()])
 
 
 if __name__ == "__main__":

@@ -1,5 +1,5 @@
 #!/usr/bin/env python3
-"""The C++ checker and the Rust gate: the verdict, listing and status of each sheet are those of the independent programs beside this one, in both.
+"""The C++ checker and the Rust gate: the verdict, listing and status of each sheet are those of the independent program, in both.
 
 What they do with files that are no sheets, with names of any bytes, with long files, and where memory, disk or patience end, is tried with them.
 
@@ -11,7 +11,6 @@ CHECKER and GATE are commands, with an emulator before them where one is needed.
 import contextlib
 import glob
 import json
-import multiprocessing
 import os
 import pty
 import random
@@ -26,15 +25,12 @@ import tempfile
 import time
 import unicodedata
 
-import frames
-import listing
-from listing import EXAMPLES
-from owning import STRIP, grid
-from reading import POLYGON, closed, collection, geometry, multipolygon, of, polygon, rectangle, table, triangle, u32
+import independent
+from independent import ROOT
+from tally import tally
 
-ROOT = os.path.dirname(EXAMPLES)
+EXAMPLES = os.path.join(ROOT, "examples")
 READ_CAP = 196_608
-TABLE_OF_1024 = 78_866  # a sheet with so many triangles has at least so many bytes
 
 # ---------------------------------------------------------------------------------------------------------------- what is expected
 
@@ -53,12 +49,10 @@ def refused(code, item):
     return "refused %d %d: %s" % (code, item, sentence.replace("{}", named))
 
 
-def verdict(text):
-    """The verdict that a listing tells."""
-    lines = text.splitlines()
-    if lines[0].startswith("refused"):
-        return refused(*map(int, lines[0].split()[1:]))
-    return "clean" if "verdict clean" in lines else "repair"
+def told(verdict):
+    """The independent program's verdict as both programs print it."""
+    word, *numbers = verdict.split()
+    return refused(*map(int, numbers)) if word == "refused" else word
 
 
 def shown(name):
@@ -168,17 +162,11 @@ class Programs:
 # ---------------------------------------------------------------------------------------------------------------- sheets
 
 
-def oracle(path):
-    with open(path, "rb") as f:
-        return listing.text(f.read())
-
-
 def sheets_of(programs, what, paths):
     """Both programs on sheets, whose verdicts and listings are those of the independent program."""
-    with multiprocessing.Pool() as pool:
-        texts = pool.map(oracle, paths, chunksize=1)
-    lines = [line(path, verdict(text)) for path, text in zip(paths, texts)]
-    listed = [printed for path, text in zip(paths, texts) for printed in [shown(path) + ":", *text.splitlines()]]
+    answers = independent.answers(paths)
+    lines = [line(path, told(verdict)) for path, (verdict, _) in zip(paths, answers)]
+    listed = [printed for path, (_, listing) in zip(paths, answers) for printed in [shown(path) + ":", *listing]]
     refusals_told = [said for said in lines if kind(said) == 2]
     outcomes = programs.same(what, paths, lines)
     return lines, outcomes + [equal(what + ", listings", run(programs.checker, *paths), (max(map(kind, lines)), listed, refusals_told))]
@@ -188,11 +176,16 @@ def wkb_of(folder):
     return sorted(glob.glob(os.path.join(folder, "*.wkb")))
 
 
+def contents(path):
+    with open(path, "rb") as f:
+        return f.read()
+
+
 def generated(programs, folder):
     """The folder's sheets, named one by one and as a folder; every kind of verdict and the largest sheets are among them."""
     paths = wkb_of(folder)
     lines, outcomes = sheets_of(programs, "generated sheets", paths)
-    largest = [path for path in paths if os.path.getsize(path) >= TABLE_OF_1024]
+    largest = [path for path in paths if os.path.basename(path).startswith("largest-")]
     return outcomes + [
         equal("the folder", run(programs.gate, folder), (2, lines + [summary(lines)], [])),
         equal("kinds", {kind(said) for said in lines}, {0, 1, 2}),
@@ -202,11 +195,11 @@ def generated(programs, folder):
 
 def examples(programs):
     """The stored listings of the examples, from a file and from standard input."""
-    outcomes = []
-    for path in wkb_of(EXAMPLES):
+    outcomes, paths = [], wkb_of(EXAMPLES)
+    for path, (verdict, _) in zip(paths, independent.answers(paths)):
         with open(path, "rb") as f, open(path[:-4] + ".txt", encoding="ascii") as g:
             sheet, stored = f.read(), g.read()
-        said = verdict(stored)
+        said = told(verdict)
         ended = KINDS.index(said.split()[0])
         for name, words in ((path, [path]), ("-", []), ("-", ["-"])):
             wanted = ended, stored.splitlines(), [line(name, said)] * (ended == 2)
@@ -216,50 +209,33 @@ def examples(programs):
     return outcomes
 
 
-def sentences(programs):
-    """Refusals in words, written down here."""
-    left = of([((0, 0), (2, 0), (2, 4)), ((0, 0), (2, 4), (0, 4))])
-    wanted = [
-        (b"", "refused 1 0: the bytes end too early for the next field of the sheet's own header"),
-        (collection(b"\2"), "refused 2 1: a byte order in member 1, the triangle table is neither 0 nor 1"),
-        (collection(left, polygon(rectangle(0, 2)), geometry(9, [])), "refused 3 3: a type in member 3 isn't allowed at its place"),
-        (collection(table()), "refused 4 1: a count in member 1, the triangle table is outside the limits"),
-        (collection(left, polygon([(0.5, 0)] * 4)), "refused 5 2: a point in member 2 isn't given in whole millimetres within 10,000,000"),
-        (collection(left, polygon([(0, 0)] * 3 + [(1, 1)])), "refused 6 2: a ring in member 2 doesn't end at its first point"),
-        (collection(left) + b"\0", "refused 7 0: there are bytes after the sheet"),
-        (collection(left, collection(collection(collection(collection())))), "refused 8 2: a collection in member 2 is nested too deep"),
-        (collection(table(triangle((0, 0), (2, 0), (2, 4)), triangle((0, 0), (0, 4), (2, 4)))), "refused 10 2: triangle 2 has no area above 0"),
-        (collection(of([((0, 0), (2, 0), (2, 4))] * 2)), "refused 11 2: triangle 2 has a side of an earlier triangle"),
-        (collection(of([((0, 0), (2, 0), (2, 4)), ((9, 9), (11, 9), (11, 13))])), "refused 12 0: the triangles don't make up the frame"),
-        (collection(STRIP, polygon(rectangle(0, 4)), polygon(rectangle(0, 3))), "refused 20 2: no set of triangles carries polygon 2"),
-    ]
-    with folder_of({"%02d.wkb" % k: sheet for k, (sheet, _) in enumerate(wanted)}) as folder:
-        paths = [os.path.join(folder, b"%02d.wkb" % k) for k in range(len(wanted))]
-        return programs.same("refusals in words", paths, [line(path, said) for path, (_, said) in zip(paths, wanted)])
+def sentences(programs, cases):
+    """Refusals in words, written down here, of sheets made by hand."""
+    wanted = {
+        "example 11 - no bytes": "refused 1 0: the bytes end too early for the next field of the sheet's own header",
+        "a byte order of 2 with nothing behind it": "refused 2 1: a byte order in member 1, the triangle table is neither 0 nor 1",
+        "a member of type 9": "refused 3 3: a type in member 3 isn't allowed at its place",
+        "a table of no triangles": "refused 4 1: a count in member 1, the triangle table is outside the limits",
+        "-0.5 as the x of a ring's first point, little-endian": "refused 5 2: a point in member 2 isn't given in whole millimetres within 10,000,000",
+        "a ring from (0, 0) to (1, 0) in member 2": "refused 6 2: a ring in member 2 doesn't end at its first point",
+        "a byte after the sheet": "refused 7 0: there are bytes after the sheet",
+        "a collection at depth 5 with no members": "refused 8 2: a collection in member 2 is nested too deep",
+        "a triangle that is clockwise, the last": "refused 10 9: triangle 9 has no area above 0",
+        "triangle 3 has a side of 2, triangle 4 one of 1": "refused 11 3: triangle 3 has a side of an earlier triangle",
+        "a triangle far from another": "refused 12 0: the triangles don't make up the frame",
+        "not-carried": "refused 20 2: no set of triangles carries polygon 2",
+    }
+    paths = [os.path.join(cases, name + ".wkb") for name in wanted]
+    return programs.same("refusals in words", paths, [line(path, said) for path, said in zip(paths, wanted.values())])
 
 
 # ---------------------------------------------------------------------------------------------------------------- long files
 
 
-def within(t):
-    """A triangle's ring as a polygon within as many containers as can be below a member."""
-    return collection(collection(multipolygon(polygon(closed(*t)))))
-
-
-def longest(members):
-    """The table and the members of a sheet of 1,024 triangles, each a polygon of its own, shared out to so many members."""
-    triangles = grid(range(0, 66, 2), range(0, 34, 2))
-    parts = [triangles[k * 1024 // members:(k + 1) * 1024 // members] for k in range(members)]
-    return [of(triangles), *[collection(*map(within, part)) for part in parts]]
-
-
-def long_files(programs):
+def long_files(programs, cases):
     """The longest sheet, and the input that is looked at farthest before it is refused, with and without bytes behind them; each is answered as the
-    independent reader answers all of its bytes."""
-    sheet = collection(*longest(64))
-    start_of_ring = geometry(POLYGON, [b""])[:9] + u32(4)
-    farthest = collection(*longest(63), collection(collection(collection(multipolygon(start_of_ring)))))
-    assert (len(sheet), len(farthest)) == (185_938, 185_978)
+    independent program answers all of its bytes."""
+    sheet, farthest = (contents(os.path.join(cases, name)) for name in ("the longest sheet.wkb", "the farthest fault.wkb"))
     files = {}
     for size in (0, 1, READ_CAP - len(sheet), READ_CAP - len(sheet) + 1, 300_000):
         files["sheet and %06d more" % size] = (sheet + bytes(size), "clean" if size == 0 else refused(7, 0))
@@ -270,7 +246,8 @@ def long_files(programs):
     with folder_of({name: content for name, (content, _) in files.items()}) as folder:
         paths = [os.path.join(folder, name.encode()) for name in files]
         lines = [line(path, said) for path, (_, said) in zip(paths, files.values())]
-        outcomes = [equal(name, verdict(listing.text(content)), said) for name, (content, said) in files.items()]
+        answers = independent.answers(paths)
+        outcomes = [equal(name, told(verdict), said) for (name, (_, said)), (verdict, _) in zip(files.items(), answers)]
         outcomes += programs.same("long files", paths, lines)
         for name in ("sheet and 300000 more", "fault and 300000 more"):
             content, said = files[name]
@@ -317,7 +294,7 @@ def any_names(programs):
 
 def irregular(programs):
     """Pipes, sockets, devices, folders, links, and paths that lead nowhere: each named with the reason, and none waited for."""
-    with folder_of({"strip.wkb": listing.examples()["strip"], "folder/x.wkb": b""}) as folder, socket.socket(socket.AF_UNIX) as listening:
+    with folder_of({"strip.wkb": contents(os.path.join(EXAMPLES, "strip.wkb")), "folder/x.wkb": b""}) as folder, socket.socket(socket.AF_UNIX) as listening:
         def path(name):
             return os.path.join(folder, name)
         os.mkfifo(path(b"pipe"))
@@ -521,17 +498,20 @@ def main(checker, gate, folder):
     programs = Programs(checker, gate)
     stored = wkb_of(EXAMPLES)
     lines, outcomes = sheets_of(programs, "examples", stored)
-    outcomes += generated(programs, folder) + examples(programs) + sentences(programs) + long_files(programs)
+    outcomes += generated(programs, folder) + examples(programs)
+    with tempfile.TemporaryDirectory() as cases:
+        independent.cases(cases)
+        outcomes += sentences(programs, cases) + long_files(programs, cases)
     outcomes += any_names(programs) + irregular(programs) + folders(programs) + options(programs)
     outcomes += unwritable(programs, stored) + as_they_come(programs, stored, lines) + progress(programs.gate, stored[0])
     if len(checker.split()) == 1:  # an emulator needs memory of its own
         outcomes += out_of_memory("checker", programs.batch, stored) + out_of_memory("gate", programs.gate, stored)
         outcomes += steady(programs) + little_stack(programs, stored)
-    return frames.tally(outcomes)
+    return tally(outcomes)
 
 
 if __name__ == "__main__":
     if sys.argv[1:2] == ["--sheets"]:
         *commands, where = sys.argv[2:]
-        sys.exit(frames.tally(sheets_of(Programs(*commands), "sheets", wkb_of(where))[1]))
+        sys.exit(tally(sheets_of(Programs(*commands), "sheets", wkb_of(where))[1]))
     sys.exit(main(*sys.argv[1:]))

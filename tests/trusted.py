@@ -12,7 +12,7 @@ import os
 import re
 import sys
 
-import frames
+from tally import tally
 
 ROOT = os.path.dirname(os.path.dirname(os.path.abspath(__file__)))
 LIST = os.path.join(ROOT, "docs", "TRUSTED.md")
@@ -223,7 +223,7 @@ def main(words):
         kept = page.partition(BEGIN)[2].partition(END)[0] == "\n" + text
         if not kept:
             print("docs/TRUSTED.md is out of date: python3 tests/trusted.py --write")
-        return frames.tally([kept, not faults, *(bool(sentence(path)) for path in files)])
+        return tally([kept, not faults, *(bool(sentence(path)) for path in files)])
     print(text)
     return 0
 

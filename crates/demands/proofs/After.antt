@@ -15,9 +15,9 @@ use Rattle.lent.specs.Answered.{Outcome, refusal, bytes}
 use Rattle.repair.proofs.OneOwner.{unowned}
 use Rattle.repair.specs.OneOwner.{ownersAt}
 use Rattle.repair.proofs.Kept.{from-owners}
-use Rattle.sheet.specs.Numbers.{Sheet}
+use Rattle.sheet_form.specs.Numbers.{Sheet}
 use Rattle.judged.specs.Judged.{judged, judgedSheet}
-use Rattle.answers.specs.Answers.{afterRepair}
+use Rattle.repair_answers.specs.Answers.{afterRepair}
 use Rattle.outcomes.specs.Entries.{repairOf, ownedSides, sidesAfter, boundaryOutcome}
 use Rattle.demands.specs.Answers.{HasSets, NoOwner, Repaired, OnSheet}
 use Rattle.demands.proofs.Repair.{unrepaired, one-owner, no-other}

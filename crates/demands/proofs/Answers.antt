@@ -13,21 +13,21 @@ use lib.IntN.{pos}
 use lib.ListN.{length}
 use Rattle.whole.specs.Sums.{All}
 use Rattle.lent.specs.Answered.{Outcome, refusal, bytes}
-use Rattle.little.specs.Bytes.{setBytes, sideBytes}
-use Rattle.sheet.specs.Numbers.{Sheet, numbersOf}
+use Rattle.lent_little.specs.Bytes.{setBytes, sideBytes}
+use Rattle.sheet_form.specs.Numbers.{Sheet, numbersOf}
 use Rattle.sheet.specs.Reading.{readingOf}
-use Rattle.text.specs.Text.{lineOf}
-use Rattle.printing.specs.Lines.{refusedWord}
+use Rattle.lent_text.specs.Text.{lineOf}
+use Rattle.listing_lines.specs.Lines.{refusedWord}
 use Rattle.listing.specs.Listing.{listingOf, listing as listingBy}
-use Rattle.written.specs.Fits.{sheetFits}
-use Rattle.written.specs.Given.{sheetGiven, writeOutcome}
-use Rattle.written.specs.Reading.{ReadSheet, sheet, refused, readSheet}
-use Rattle.written.specs.Normal.{written}
-use Rattle.written.proofs.Given.{given-form, form-length}
-use Rattle.written.proofs.Held.{read-sheet-is, read-held, read-refused}
+use Rattle.sheet_written.specs.Fits.{sheetFits}
+use Rattle.sheet_written.specs.Given.{sheetGiven, writeOutcome}
+use Rattle.sheet.specs.Read.{ReadSheet, sheet, refused, readSheet}
+use Rattle.sheet_written.specs.Normal.{written}
+use Rattle.sheet_written.proofs.Given.{given-form, form-length}
+use Rattle.sheet_written.proofs.Held.{read-sheet-is, read-held, read-refused}
 use Rattle.judged.specs.Judged.{JudgedSheet, judged, refusal as refusedSheet, judgedSheet}
-use Rattle.answers.specs.Answers.{afterRepair, numbersAfter}
-use Rattle.set_bytes.specs.Sets.{setsOutcome}
+use Rattle.repair_answers.specs.Answers.{afterRepair, numbersAfter}
+use Rattle.lent_sets.specs.Sets.{setsOutcome}
 use Rattle.outcomes.specs.Entries.{repairOf, ownedSides, boundaryOutcome}
 use Rattle.outcomes.proofs.Outcomes.{numbers-read, numbers-unread}
 use Rattle.demands.specs.Answers.{formOf, HasSets, Refused, NoOwner, Repaired, OnSheet}

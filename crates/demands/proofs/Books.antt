@@ -8,12 +8,12 @@ use Rattle.plane.specs.Points.{double}
 use Rattle.plane.specs.Members.{doubleArea}
 use Rattle.table.specs.Table.{corners, frame}
 use Rattle.table.specs.Sets.{chosen}
-use Rattle.marks.specs.Marks.{standingOf}
-use Rattle.sheet.specs.Numbers.{Sheet}
+use Rattle.owners_marks.specs.Marks.{standingOf}
+use Rattle.sheet_form.specs.Numbers.{Sheet}
 use Rattle.judged.specs.Judged.{judged, judgedSheet}
 use Rattle.judged.proofs.Repaired.{judged-owners}
-use Rattle.judged.proofs.Figures
-use Rattle.figures.specs.Standings.{isSingle, owing}
+use Rattle.listing.proofs.Figures
+use Rattle.listing_figures.specs.Standings.{isSingle, owing}
 use Rattle.listing.specs.Listing.{gapsOf, overlapsOf}
 use Rattle.demands.proofs.Stages.{read-limits}
 

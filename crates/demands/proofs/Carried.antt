@@ -13,17 +13,17 @@ use Rattle.plane.specs.Members.{Member}
 use Rattle.table.specs.Table.{RuleA, RuleB, RuleC, passed, refused, checkTable}
 use Rattle.table.specs.Sets.{SetOf}
 use Rattle.table.proofs.Rules.{passes as by-rules, refused-as}
-use Rattle.marks.specs.Marks.{ownerSets}
+use Rattle.owners_marks.specs.Marks.{ownerSets}
 use Rattle.owners.specs.Judging.{Carries, carried as carriedBy, notCarried, code, judge, AreaOfOwnership}
 use Rattle.owners.specs.Owners.{Ownership, owned, notCarriedAt, judgeFrom, ofOwnership}
 use Rattle.owners.proofs.Carried.{answered, answers, not-carried}
 use Rattle.owners.proofs.Polygons.{sets-say}
-use Rattle.judging.specs.declared.Judging.{Judging}
-use Rattle.judging.specs.declared.Judging.the-variants.{Carried as Yes}
-use Rattle.judging.specs.Judged.{judgedOf}
-use Rattle.judging.proofs.Judged.{judging-says as code-says}
-use Rattle.sheet.specs.Numbers.{Sheet}
-use Rattle.written.specs.Reading.{sheet, readSheet}
+use Rattle.owners_judge.specs.declared.Judging.{Judging}
+use Rattle.owners_judge.specs.declared.Judging.the-variants.{Carried as Yes}
+use Rattle.owners_judge.specs.Judged.{judgedOf}
+use Rattle.owners_judge.proofs.Judged.{judging-says as code-says}
+use Rattle.sheet_form.specs.Numbers.{Sheet}
+use Rattle.sheet.specs.Read.{sheet, readSheet}
 use Rattle.judged.specs.Judged.{judged, refusal, withSets, judgedSheet}
 use Rattle.judged.proofs.Repaired.{judged-owners}
 use Rattle.demands.specs.Triangles.{NoArea, RepeatsSide, First}

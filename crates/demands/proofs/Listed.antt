@@ -13,7 +13,7 @@ use Rattle.whole.specs.Sums.{All, any}
 use Rattle.whole.proofs.Sums.{and-left, and-right, and-both, every-all}
 use Rattle.lent.specs.Answered.{refusal}
 use Rattle.sheet.proofs.Refusals.{Lawful}
-use Rattle.written.specs.Reading.{refused as unreadable, readSheet}
+use Rattle.sheet.specs.Read.{refused as unreadable, readSheet}
 use Rattle.demands.specs.Refusals.{Row, alone, rows, stands, Listed}
 use Rattle.demands.specs.Entries.{Entry, numbers, write, ownerSets, owners, boundary, listing, outcomeOf}
 use Rattle.demands.specs.Answers.{Refused, unread, breaks-A, breaks-B, breaks-C, not-carried}

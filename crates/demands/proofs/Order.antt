@@ -15,8 +15,8 @@ use Rattle.owners.specs.Judging.{carried as carriedBy, notCarried, judge}
 use Rattle.owners.specs.Owners.{Ownership, owned, notCarriedAt, judgeFrom, ofOwnership, ofChecked, ownersOf}
 use Rattle.owners.proofs.Carried.{answered, not-carried}
 use Rattle.owners.proofs.Polygons.{FirstRefused, first-refused, bits-are}
-use Rattle.sheet.specs.Numbers.{Sheet}
-use Rattle.written.specs.Reading.{sheet, readSheet}
+use Rattle.sheet_form.specs.Numbers.{Sheet}
+use Rattle.sheet.specs.Read.{sheet, readSheet}
 use Rattle.judged.specs.Judged.{withSets, ofRead, judgedSheet}
 use Rattle.demands.specs.Polygons.{SomeSet, polygon, EachCarried, FirstNotCarried}
 

@@ -10,20 +10,20 @@ use lib.IntN.{ℤ}
 use lib.ListN.{length}
 use Rattle.whole.specs.Numbers.{Within}
 use Rattle.whole.specs.Sums.{All}
-use Rattle.coordinate.specs.Coordinate.{Equals, heldOf, coordinateOf}
-use Rattle.coordinate.specs.declared.Coordinate.the-variants.{Whole}
-use Rattle.coordinate.proofs.Meaning
+use Rattle.sheet_coordinate.specs.Coordinate.{Equals, heldOf, coordinateOf}
+use Rattle.sheet_coordinate.specs.declared.Coordinate.the-variants.{Whole}
+use Rattle.sheet_coordinate.proofs.Meaning
 use Rattle.wkb.specs.declared.Cursor.{Cursor}
 use Rattle.wkb.specs.declared.Step.the-variants.{End, Refused}
 use Rattle.wkb.specs.Standard.{Geometry, encode}
 use Rattle.wkb.specs.Steps.{stepAt}
 use Rattle.wkb.proofs.Again
-use Rattle.sheet.specs.Numbers.{Sheet}
-use Rattle.standard.specs.Limits.{SheetFits, sheetOf}
-use Rattle.standard.proofs.Standard.{reads-the-standard as by-steps}
-use Rattle.written.specs.Reading.{ReadSheet, sheet, refused, readSheet}
-use Rattle.written.proofs.Held.{read-sheet-is}
-use Rattle.written.proofs.Sized.{read-small}
+use Rattle.sheet_form.specs.Numbers.{Sheet}
+use Rattle.sheet_standard.specs.Limits.{SheetFits, sheetOf}
+use Rattle.sheet_standard.proofs.Standard.{reads-the-standard as by-steps}
+use Rattle.sheet.specs.Read.{ReadSheet, sheet, refused, readSheet}
+use Rattle.sheet_written.proofs.Held.{read-sheet-is}
+use Rattle.sheet_written.proofs.Sized.{read-small}
 
 -- Reading bytes answers the sheet n exactly if some tree of the standard's geometries within the limits has these bytes and unfolds to n.
 pub reads-the-standard : (s : List ℕ) → All (λ b. b < 256) s → (n : Sheet) → (readSheet s ≡ sheet n) ↔ ((g : Geometry) × SheetFits g × (encode g ≡ s) × (sheetOf g ≡ n))

@@ -14,13 +14,13 @@ use Rattle.plane.specs.Boundaries.{boundary, sidesOf}
 use Rattle.plane.specs.Members.{doubleArea}
 use Rattle.table.specs.Table.{corners, frame}
 use Rattle.table.specs.Opposites.{opposites}
-use Rattle.regions.specs.Regions.{from}
+use Rattle.repair_regions.specs.Regions.{from}
 use Rattle.repair.specs.OneOwner.{OneOwner, ownersAt}
 use Rattle.repair.proofs.Kept
-use Rattle.bounding.specs.Sides.{trianglesOwned}
-use Rattle.sheet.specs.Numbers.{Sheet}
+use Rattle.repair_sides.specs.Sides.{trianglesOwned}
+use Rattle.sheet_form.specs.Numbers.{Sheet}
 use Rattle.sheet.specs.Reading.{readingOf}
-use Rattle.written.specs.Held.{SheetHeld}
+use Rattle.sheet.specs.Held.{SheetHeld}
 use Rattle.judged.specs.Judged.{judged, judgedSheet}
 use Rattle.judged.proofs.Repaired
 use Rattle.outcomes.specs.Entries.{repairOf, ownedSides}

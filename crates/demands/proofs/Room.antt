@@ -14,18 +14,18 @@ use lib.ListN.{length, length-append}
 use Rattle.whole.specs.Sums.{All}
 use Rattle.plane.specs.Points.{Edge}
 use Rattle.lent.specs.Answered.{Outcome, refusal, bytes, answerOf, Answered}
-use Rattle.little.specs.Ordered.{bytes as bytesOf}
-use Rattle.little.specs.Bytes.{setBytes, sideBytes}
-use Rattle.little.proofs.Bytes.{set-length, all-length}
-use Rattle.sheet.specs.Numbers.{numbersOf}
-use Rattle.printing.specs.Lines.{refusedWord}
-use Rattle.written.specs.Reading.{refused, readSheet}
-use Rattle.written.specs.Normal.{written}
-use Rattle.written.proofs.Given.{form-length, form-bytes}
-use Rattle.written.proofs.Held.{read-sheet-is}
-use Rattle.written.proofs.Largest.{largest, largest-fits, largest-numbers, largest-written}
-use Rattle.written.proofs.Sized.{written-small}
-use Rattle.written.proofs.Trip.{written-bytes, round-trip, form-small, read-written}
+use Rattle.lent_little.specs.Ordered.{bytes as bytesOf}
+use Rattle.lent_little.specs.Bytes.{setBytes, sideBytes}
+use Rattle.lent_little.proofs.Bytes.{set-length, all-length}
+use Rattle.sheet_form.specs.Numbers.{numbersOf}
+use Rattle.listing_lines.specs.Lines.{refusedWord}
+use Rattle.sheet.specs.Read.{refused, readSheet}
+use Rattle.sheet_written.specs.Normal.{written}
+use Rattle.sheet_written.proofs.Given.{form-length, form-bytes}
+use Rattle.sheet_written.proofs.Held.{read-sheet-is}
+use Rattle.sheet_written.proofs.Largest.{largest, largest-fits, largest-numbers, largest-written}
+use Rattle.sheet_written.proofs.Sized.{written-small}
+use Rattle.sheet_written.proofs.Trip.{written-bytes, round-trip, form-small, read-written}
 use Rattle.outcomes.specs.Entries.{ownedSides}
 use Rattle.outcomes.proofs.Sized.{line-most, listing-most, sides-most}
 use Rattle.demands.specs.Answers.{formOf, Refused, unread, breaks-A, breaks-B, breaks-C, not-carried}

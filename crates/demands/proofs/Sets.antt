@@ -13,13 +13,13 @@ use Rattle.whole.specs.Sums.{All, bit}
 use Rattle.whole.proofs.Sums.{all-at}
 use Rattle.table.specs.Table.{passed, refused as unsound, checkTable}
 use Rattle.table.proofs.Rules.{passes, refused-as}
-use Rattle.marks.specs.Marks.{ownerSets}
-use Rattle.marks.proofs.Bits.{digit, digit-zero, digit-suc}
-use Rattle.marks.proofs.Owning.{length-owner-sets, owner-sets-below}
+use Rattle.owners_marks.specs.Marks.{ownerSets}
+use Rattle.owners_marks.proofs.Bits.{digit, digit-zero, digit-suc}
+use Rattle.owners_marks.proofs.Owning.{length-owner-sets, owner-sets-below}
 use Rattle.owners.specs.Owners.{Ownership, owned, notCarriedAt, judgeFrom, ofOwnership, ofChecked, ownersOf}
 use Rattle.owners.proofs.Polygons.{all-carried as each-carried, bits-are}
-use Rattle.sheet.specs.Numbers.{Sheet}
-use Rattle.written.specs.Reading.{sheet, readSheet}
+use Rattle.sheet_form.specs.Numbers.{Sheet}
+use Rattle.sheet.specs.Read.{sheet, readSheet}
 use Rattle.lent.specs.Answered.{Outcome, refusal, bytes}
 use Rattle.judged.specs.Judged.{JudgedSheet, judged, refusal as refusedSheet, withSets, ofRead, judgedSheet}
 use Rattle.judged.proofs.Repaired.{marks-fit}

@@ -15,13 +15,13 @@ use Rattle.plane.specs.Points.{Triangle}
 use Rattle.plane.specs.Members.{Member}
 use Rattle.table.specs.Table.{Checked, passed, refused, checkTable}
 use Rattle.owners.specs.Owners.{Ownership, owned, notCarriedAt, judgeFrom, Owned, sets, refusal as judgedRefusal, ofOwnership, ofChecked, ownersOf}
-use Rattle.sheet.specs.Numbers.{Sheet}
+use Rattle.sheet_form.specs.Numbers.{Sheet}
 use Rattle.sheet.specs.Reading.{readingOf}
 use Rattle.sheet.proofs.Refusals.{Lawful, reading-lawful}
-use Rattle.written.specs.Form.{sheetIn}
-use Rattle.written.specs.Held.{SheetHeld}
-use Rattle.written.specs.Reading.{ReadSheet, sheet, refused as unread, made, readSheet}
-use Rattle.written.proofs.Held.{read-sheet-is, reads-held}
+use Rattle.sheet_form.specs.Form.{sheetIn}
+use Rattle.sheet.specs.Held.{SheetHeld}
+use Rattle.sheet.specs.Read.{ReadSheet, sheet, refused as unread, made, readSheet}
+use Rattle.sheet_written.proofs.Held.{read-sheet-is, reads-held}
 use Rattle.judged.specs.Judged.{withSets, ofRead, refusal, judgedSheet}
 
 -- A refusal of reading has a code that document 01 gives for reading, with its item.

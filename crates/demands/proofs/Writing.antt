@@ -7,16 +7,16 @@ use lib.Dec.{T}
 use lib.ListN.{length}
 use Rattle.whole.specs.Sums.{All}
 use Rattle.wkb.specs.Standard.{Geometry, encode}
-use Rattle.sheet.specs.Numbers.{Sheet, numbersOf}
+use Rattle.sheet_form.specs.Numbers.{Sheet, numbersOf}
 use Rattle.sheet.specs.Reading.{readingOf}
-use Rattle.standard.specs.Limits.{SheetFits, sheetOf}
-use Rattle.written.specs.Fits.{sheetFits}
-use Rattle.written.specs.Reading.{sheet, readSheet}
-use Rattle.written.specs.Normal.{written}
-use Rattle.written.proofs.Given.{form-bytes}
-use Rattle.written.proofs.Held.{read-sheet-is}
-use Rattle.written.proofs.Trip.{written-bytes}
-use Rattle.written.proofs.Trip
+use Rattle.sheet_standard.specs.Limits.{SheetFits, sheetOf}
+use Rattle.sheet_written.specs.Fits.{sheetFits}
+use Rattle.sheet.specs.Read.{sheet, readSheet}
+use Rattle.sheet_written.specs.Normal.{written}
+use Rattle.sheet_written.proofs.Given.{form-bytes}
+use Rattle.sheet_written.proofs.Held.{read-sheet-is}
+use Rattle.sheet_written.proofs.Trip.{written-bytes}
+use Rattle.sheet_written.proofs.Trip
 use Rattle.lent.specs.Answered.{bytes}
 use Rattle.demands.specs.Answers.{formOf}
 use Rattle.demands.specs.Entries.{numbers, write, outcomeOf}

@@ -8,11 +8,11 @@ use Rattle.whole.specs.Sums.{All}
 use Rattle.plane.specs.Boundaries.{sidesOf}
 use Rattle.table.specs.Table.{RuleA, RuleB, RuleC}
 use Rattle.table.specs.Opposites.{opposites}
-use Rattle.little.specs.Bytes.{i32}
+use Rattle.lent_little.specs.Bytes.{i32}
 use Rattle.owners.specs.Judging.{AreaOfOwnership}
 use Rattle.repair.specs.OneOwner.{OneOwner}
-use Rattle.sheet.specs.Numbers.{Sheet, numbersOf}
-use Rattle.written.specs.Reading.{sheet, refused, readSheet}
+use Rattle.sheet_form.specs.Numbers.{Sheet, numbersOf}
+use Rattle.sheet.specs.Read.{sheet, refused, readSheet}
 use Rattle.demands.specs.Polygons.{polygon, FirstNotCarried, BitsAre}
 use Rattle.demands.specs.Triangles.{Passes, NoArea, RepeatsSide, First}
 

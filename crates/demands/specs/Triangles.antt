@@ -7,7 +7,7 @@ use mathlib.Core.List.{List}
 use Rattle.whole.specs.Sums.{Among}
 use Rattle.plane.specs.Points.{Edge, Triangle, sides, sameEdge, double}
 use Rattle.table.specs.Table.{RuleA, RuleB, RuleC}
-use Rattle.written.specs.Fits.{origin}
+use Rattle.sheet_written.specs.Fits.{origin}
 
 -- The table passes the three rules.
 abbrev pub Passes : List Triangle → Type 0

@@ -1,5 +1,5 @@
 // Calls the entries as the frames of standard input say, and prints for each frame what was answered and a checksum of the lent bytes.
-// A frame: a byte for the entry, u32 LE length of its input, u32 LE number of lent bytes, the input. tests/entries.py makes the frames and
+// A frame: a byte for the entry, u32 LE length of its input, u32 LE number of lent bytes, the input. hosts/independent makes the frames and
 // the expected lines.
 ghost use mathlib.Core.Path.{_≡_};
 ghost use Prim.Native.Nat.{_+_, _≤_, _<_};

@@ -3,5 +3,4 @@ pub mod Read
 pub mod Repaired
 pub mod Standing
 pub mod Sides
-pub mod Figures
 pub mod OneOutcome

@@ -9,9 +9,9 @@ use Rattle.plane.specs.Corners.{millimetres}
 use Rattle.plane.specs.Boundaries.{sidesOf}
 use Rattle.plane.proofs.Keys.{millimetres-same}
 use Rattle.table.specs.Opposites.{opposites}
-use Rattle.sheet.specs.Numbers.{Sheet, numbersOf}
-use Rattle.owner_sets.specs.declared.Owning.{Owning}
-use Rattle.owner_sets.specs.declared.Owning.the-variants.{Sets, Refused}
+use Rattle.sheet_form.specs.Numbers.{Sheet, numbersOf}
+use Rattle.judged_sets.specs.declared.Owning.{Owning}
+use Rattle.judged_sets.specs.declared.Owning.the-variants.{Sets, Refused}
 use Rattle.judged.specs.Judged.{judged, refusal, judgedSheet}
 use Rattle.judged.specs.Held.{Stands, JudgedAs}
 

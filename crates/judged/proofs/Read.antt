@@ -9,16 +9,16 @@ use lib.Dec.{eqb}
 use lib.ListN.{length, take}
 use Rattle.plane.specs.Corners.{millimetres}
 use Rattle.sheet.specs.declared.Ending.the-variants.{Sheet as Read, Refused}
-use Rattle.sheet.specs.Numbers.{Sheet}
+use Rattle.sheet_form.specs.Numbers.{Sheet}
 use Rattle.sheet.specs.Reading.{Reading, readingOf}
 use Rattle.sheet.specs.Going.{laid, readOf}
 use Rattle.sheet.proofs.Laid.{length-laid, laid-front}
-use Rattle.written.specs.Form.{sheetIn}
-use Rattle.written.specs.Held.{SheetHeld}
-use Rattle.written.specs.Reading.{sheet, made, readSheet, refused as unread}
-use Rattle.owner_sets.specs.declared.Owning.{Owning}
-use Rattle.owner_sets.specs.declared.Owning.the-variants.{Sets, Refused as RefusedOwning}
-use Rattle.owner_sets.specs.Owning.{OwnedOf}
+use Rattle.sheet_form.specs.Form.{sheetIn}
+use Rattle.sheet.specs.Held.{SheetHeld}
+use Rattle.sheet.specs.Read.{sheet, made, readSheet, refused as unread}
+use Rattle.judged_sets.specs.declared.Owning.{Owning}
+use Rattle.judged_sets.specs.declared.Owning.the-variants.{Sets, Refused as RefusedOwning}
+use Rattle.judged_sets.specs.Owning.{OwnedOf}
 use Rattle.judged.specs.Judged.{withSets, ofRead, refusal, judgedSheet}
 use Rattle.judged.specs.Held.{JudgedAs}
 

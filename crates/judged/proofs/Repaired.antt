@@ -25,24 +25,24 @@ use Rattle.table.specs.Table.{corners, frame, RuleA, RuleB, RuleC, Checked, pas
 use Rattle.table.specs.Sides.{trianglesOf}
 use Rattle.table.specs.Opposites.{opposites}
 use Rattle.table.proofs.Rules.{passes}
-use Rattle.marks.specs.Marks.{ownerSets}
-use Rattle.marks.proofs.Bits.{owners-in}
-use Rattle.marks.proofs.Owning.{length-owner-sets, owner-sets-below, no-bit-beyond}
-use Rattle.regions.specs.Regions.{from}
-use Rattle.regions.specs.Spreading.{Paired}
+use Rattle.owners_marks.specs.Marks.{ownerSets}
+use Rattle.owners_marks.proofs.Bits.{owners-in}
+use Rattle.owners_marks.proofs.Owning.{length-owner-sets, owner-sets-below, no-bit-beyond}
+use Rattle.repair_regions.specs.Regions.{from}
+use Rattle.repair_regions.specs.Spreading.{Paired}
 use Rattle.repair.specs.Repair.{repaired}
 use Rattle.repair.proofs.OneOwner.{Connects, paired, connects, no-owner, repaired-length, repaired-one, only-one}
 use Rattle.repair.specs.OneOwner.{ownersOf as ownersIn, ownersAt, OneOwner}
 use Rattle.repair.proofs.Kept.{within-polygons}
-use Rattle.bounding.specs.Sides.{boundarySides, trianglesOwned}
-use Rattle.bounding.proofs.Bounding.{sides-are-boundary as are-boundary, sides-once as each-once, at-most-one as none-above, owned-once, frame-after}
+use Rattle.repair_sides.specs.Sides.{boundarySides, trianglesOwned}
+use Rattle.repair_sides.proofs.Bounding.{sides-are-boundary as are-boundary, sides-once as each-once, at-most-one as none-above, owned-once, frame-after}
 use Rattle.owners.specs.Owners.{Ownership, owned, notCarriedAt, judgeFrom, Owned, sets, refusal, ofOwnership, ofChecked, ownersOf}
 use Rattle.owners.proofs.Carried.{answered}
 use Rattle.owners.proofs.Polygons.{EachCarried, all-carried}
-use Rattle.sheet.specs.Numbers.{Sheet, memberNumbers, counted}
-use Rattle.written.specs.Held.{SheetHeld}
-use Rattle.written.specs.Reading.{ReadSheet, sheet, refused as unread, readSheet}
-use Rattle.edges.proofs.Triangles.{held-keys}
+use Rattle.sheet_form.specs.Numbers.{Sheet, memberNumbers, counted}
+use Rattle.sheet.specs.Held.{SheetHeld}
+use Rattle.sheet.specs.Read.{ReadSheet, sheet, refused as unread, readSheet}
+use Rattle.sheet_edges.proofs.Triangles.{held-keys}
 use Rattle.judged.specs.Judged.{judged, withSets, ofRead, judgedSheet}
 
 -- Bytes that come to a judged sheet are read as that sheet, and its owner sets are those of its table and polygons.

@@ -15,17 +15,17 @@ use Rattle.table.specs.Table.{RuleB}
 use Rattle.table.specs.Sides.{trianglesOf, tailsOf, sideAt}
 use Rattle.table.specs.Opposites.{opposites}
 use Rattle.table.proofs.Shares.{length-opposites}
-use Rattle.bounding.specs.Sides.{boundarySides, trianglesOwned}
-use Rattle.bounding.specs.Numbered.{boundaryNumbers}
-use Rattle.bounding.proofs.Bounding.{by-number}
-use Rattle.bounding.proofs.Laying.{bounding-below}
-use Rattle.sheet.specs.Numbers.{Sheet, memberNumbers, counted}
-use Rattle.little.specs.Bytes.{heldBytes, pointBytes, sideBytes}
-use Rattle.little.specs.Held.{endOf, cornerHeld, sideHeld}
-use Rattle.written.specs.Held.{SheetHeld}
-use Rattle.edges.specs.Standing.{cornerAt}
-use Rattle.edges.proofs.Walk.{point-at}
-use Rattle.edges.proofs.Triangles.{table-room, held-keys}
+use Rattle.repair_sides.specs.Sides.{boundarySides, trianglesOwned}
+use Rattle.repair_sides.specs.Numbered.{boundaryNumbers}
+use Rattle.repair_sides.proofs.Bounding.{by-number}
+use Rattle.repair_sides.proofs.Laying.{bounding-below}
+use Rattle.sheet_form.specs.Numbers.{Sheet, memberNumbers, counted}
+use Rattle.lent_little.specs.Bytes.{heldBytes, pointBytes, sideBytes}
+use Rattle.lent_little.specs.Held.{endOf, cornerHeld, sideHeld}
+use Rattle.sheet.specs.Held.{SheetHeld}
+use Rattle.sheet_edges.specs.Standing.{cornerAt}
+use Rattle.sheet_edges.proofs.Walk.{point-at}
+use Rattle.sheet_edges.proofs.Triangles.{table-room, held-keys}
 
 -- ---- lists
 flatMap-image : {A B C : Type 0} (f : B → List C) (g : A → B) (h : A → List C) (l : List A) → All (λ a. f (g a) ≡ h a) l → flatMap f (map g l) ≡ flatMap h l

@@ -7,11 +7,11 @@ use native.Mathlib.Omega.{arith}
 use lib.ListN.{length, getD, take, length-take}
 use lib.Seq.{getD-take}
 use Rattle.table.specs.Table.{RuleB}
-use Rattle.regions.specs.Spreading.{Paired}
-use Rattle.owner_sets.specs.declared.Owning.{Owning}
-use Rattle.owner_sets.specs.declared.Owning.the-variants.{Sets, Refused}
-use Rattle.owner_sets.proofs.Standing.{polygons-stand}
-use Rattle.owner_sets.proofs.Following.{polygons-count}
+use Rattle.repair_regions.specs.Spreading.{Paired}
+use Rattle.judged_sets.specs.declared.Owning.{Owning}
+use Rattle.judged_sets.specs.declared.Owning.the-variants.{Sets, Refused}
+use Rattle.judged_sets.proofs.Standing.{polygons-stand}
+use Rattle.judged_sets.proofs.Following.{polygons-count}
 use Rattle.judged.specs.Judged.{refusal, judgedSheet}
 use Rattle.judged.specs.Held.{Stands, JudgedAs}
 use Rattle.judged.proofs.Repaired.{judged-owners, judged-rules, pairs-up}

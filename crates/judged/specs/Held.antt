@@ -5,11 +5,11 @@ use Prim.Native.Nat.{ℕ, _*_}
 use lib.ListN.{length, take}
 use Rattle.plane.specs.Boundaries.{sidesOf}
 use Rattle.table.specs.Opposites.{opposites}
-use Rattle.sheet.specs.Numbers.{Sheet}
-use Rattle.written.specs.Held.{SheetHeld}
-use Rattle.owner_sets.specs.declared.Owning.{Owning}
+use Rattle.sheet_form.specs.Numbers.{Sheet}
+use Rattle.sheet.specs.Held.{SheetHeld}
+use Rattle.judged_sets.specs.declared.Owning.{Owning}
 use Rattle.judged.specs.Judged.{judged, refusal, judgedSheet}
-use Rattle.owner_sets.specs.declared.Owning.the-variants.{Sets, Refused}
+use Rattle.judged_sets.specs.declared.Owning.the-variants.{Sets, Refused}
 
 -- The bytes come to a sheet of t triangles: it stands at the front of `numbers`, the owner sets stand at the front of l, and the numbers of the
 -- reverses of the table's sides at the front of `opposite`.

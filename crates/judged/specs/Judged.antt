@@ -1,8 +1,8 @@
 -- From bytes to a judged sheet: what reading answers, then the table rules, then the judging of the polygons in number order.
 use mathlib.Core.List.{List}
 use Prim.Native.Nat.{ℕ}
-use Rattle.sheet.specs.Numbers.{Sheet}
-use Rattle.written.specs.Reading.{ReadSheet, sheet, refused as unread, readSheet}
+use Rattle.sheet_form.specs.Numbers.{Sheet}
+use Rattle.sheet.specs.Read.{ReadSheet, sheet, refused as unread, readSheet}
 use Rattle.owners.specs.Owners.{Owned, sets, refusal as refused, ownersOf}
 
 -- What bytes come to: a sheet with the owner set of each triangle of its table, or a refusal with its code and item.

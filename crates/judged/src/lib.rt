@@ -2,7 +2,7 @@
 ghost use Prim.Native.Nat.{_≤_};
 ghost use lib.ListN.{length};
 ghost use Rattle.judged.specs.Held.{JudgedAs};
-use owner_sets::Owning;
+use judged_sets::Owning;
 use sheet::Ending;
 
 // Reads the sheet and judges its polygons. On success the sheet in numbers, the number of the reverse of each side of its table, and the owner
@@ -13,6 +13,6 @@ pub fn judged(sheet: &[u8], numbers: &mut [u32], opposite: &mut [usize], sets: &
 {
     match sheet::read(sheet, numbers) {
         Ending::Refused(code, item) => Owning::Refused(code, item),
-        Ending::Sheet(n) => owner_sets::owner_sets(&numbers[..n], opposite, sets),
+        Ending::Sheet(n) => judged_sets::owner_sets(&numbers[..n], opposite, sets),
     }
 }

@@ -1,3 +1,2 @@
 -- The laws of answers and of bytes written over lent ones.
 pub mod Answered
-pub mod Placed

@@ -10,10 +10,10 @@ use Rattle.whole.proofs.Sums.{all-take}
 use Rattle.plane.specs.Points.{Triangle}
 use Rattle.plane.specs.Corners.{millimetres}
 use Rattle.plane.specs.Keys.{Held}
-use Rattle.sheet.specs.Numbers.{Sheet, triangleNumbers, memberNumbers, counted}
-use Rattle.edges.specs.Standing.{Stands}
-use Rattle.edges.proofs.Triangles.{table-room}
-use Rattle.listing.specs.Held.{Judged}
+use Rattle.sheet_form.specs.Numbers.{triangleNumbers, memberNumbers, counted}
+use Rattle.sheet_edges.specs.Standing.{Stands as StandsAt}
+use Rattle.sheet_edges.proofs.Triangles.{table-room}
+use Rattle.judged.specs.Held.{Stands}
 
 map-take : {A B : Type 0} (f : A → B) (k : ℕ) (l : List A) → map f (take k l) ≡ take k (map f l)
 map-take f zero l = refl
@@ -25,23 +25,23 @@ unfolding flatMap
 six-each [] = omega arith
 six-each (t ∷ table) = omega (arith, length-append (triangleNumbers t) (flatMap triangleNumbers table), six-each table)
 
-module _ {n : Sheet} {numbers opposite l : List ℕ} (j : Judged n numbers opposite l) {m : ℕ} (e : length (n .table) ≡ m) where
-  room-held : 1 + 6 * m ≤ length (take (j .size) numbers)
-  room-held = omega (arith, e, table-room (take (j .size) numbers) (n .table) (counted memberNumbers (n .polygons)) (j .held .is))
+module _ {s : List ℕ} {t : ℕ} {numbers opposite l : List ℕ} (w : Stands s t numbers opposite l) where
+  room-held : 1 + 6 * t ≤ length (take (w .size) numbers)
+  room-held = omega (arith, w .many, table-room (take (w .size) numbers) (w .n .table) (counted memberNumbers (w .n .polygons)) (w .held .is))
 
-  pub table-fits : 1 + 6 * m ≤ length numbers
-  table-fits = omega (arith, room-held, length-take (j .size) numbers)
+  pub table-fits : 1 + 6 * t ≤ length numbers
+  table-fits = omega (arith, room-held, length-take (w .size) numbers)
 
-  front : take (1 + 6 * m) (take (j .size) numbers) ≡ take (1 + 6 * m) numbers
-  front = take-take (1 + 6 * m) (j .size) numbers (omega (arith, room-held, length-take (j .size) numbers))
+  front : take (1 + 6 * t) (take (w .size) numbers) ≡ take (1 + 6 * t) numbers
+  front = take-take (1 + 6 * t) (w .size) numbers (omega (arith, room-held, length-take (w .size) numbers))
 
-  pub table-held : All Held (take (1 + 6 * m) numbers)
-  table-held = subst (All Held) front (all-take Held (1 + 6 * m) (take (j .size) numbers) (j .held .held))
+  pub table-held : All Held (take (1 + 6 * t) numbers)
+  table-held = subst (All Held) front (all-take Held (1 + 6 * t) (take (w .size) numbers) (w .held .held))
 
-  pub table-front : Stands (counted triangleNumbers) (take (1 + 6 * m) numbers) 0 (n .table) []
+  pub table-front : StandsAt (counted triangleNumbers) (take (1 + 6 * t) numbers) 0 (w .n .table) []
   table-front =
       ap (map millimetres) (sym front)
-      ∙ map-take millimetres (1 + 6 * m) (take (j .size) numbers)
-      ∙ ap (take (1 + 6 * m)) (j .held .is)
-      ∙ take-at (counted triangleNumbers (n .table)) (counted memberNumbers (n .polygons)) (1 + 6 * m) (omega (arith, six-each (n .table), e))
-      ∙ sym (append-nil (counted triangleNumbers (n .table)))
+      ∙ map-take millimetres (1 + 6 * t) (take (w .size) numbers)
+      ∙ ap (take (1 + 6 * t)) (w .held .is)
+      ∙ take-at (counted triangleNumbers (w .n .table)) (counted memberNumbers (w .n .polygons)) (1 + 6 * t) (omega (arith, six-each (w .n .table), w .many))
+      ∙ sym (append-nil (counted triangleNumbers (w .n .table)))

@@ -1,3 +1,4 @@
 -- The laws of the listing.
 pub mod Front
 pub mod Sheet
+pub mod Figures

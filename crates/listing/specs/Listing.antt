@@ -12,15 +12,15 @@ use Rattle.plane.specs.Boundaries.{sidesOf}
 use Rattle.plane.specs.Members.{doubleArea}
 use Rattle.table.specs.Opposites.{opposites}
 use Rattle.table.specs.Sets.{chosen}
-use Rattle.marks.specs.Marks.{standingOf}
-use Rattle.regions.specs.Regions.{from}
+use Rattle.owners_marks.specs.Marks.{standingOf}
+use Rattle.repair_regions.specs.Regions.{from}
 use Rattle.repair.specs.Repair.{repaired}
-use Rattle.bounding.specs.Sides.{trianglesOwned}
-use Rattle.sheet.specs.Numbers.{Sheet}
+use Rattle.repair_sides.specs.Sides.{trianglesOwned}
+use Rattle.sheet_form.specs.Numbers.{Sheet}
 use Rattle.judged.specs.Judged.{JudgedSheet, judged, refusal}
-use Rattle.text.specs.Text.{lineOf}
-use Rattle.printing.specs.Lines.{sheetWord, polygonWord, gapWord, overlapWord, afterWord, refusedWord, cleanLine, repairLine, numbered}
-use Rattle.figures.specs.Standings.{isGap, isSingle, isOverlap}
+use Rattle.lent_text.specs.Text.{lineOf}
+use Rattle.listing_lines.specs.Lines.{sheetWord, polygonWord, gapWord, overlapWord, afterWord, refusedWord, cleanLine, repairLine, numbered}
+use Rattle.listing_figures.specs.Standings.{isGap, isSingle, isOverlap}
 
 -- A line for some triangles: the word, how many they are, and their double area.
 abbrev pub figureLine : List ℕ → List Triangle → List ℕ

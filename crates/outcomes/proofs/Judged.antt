@@ -10,13 +10,13 @@ use lib.Dec.{leb}
 use lib.ListN.{length, take}
 use Rattle.plane.specs.Boundaries.{sidesOf}
 use Rattle.table.specs.Opposites.{opposites}
-use Rattle.sheet.specs.Numbers.{Sheet}
+use Rattle.sheet_form.specs.Numbers.{Sheet}
 use Rattle.lent.specs.Answered.{Outcome, refusal, bytes}
 use Rattle.repair.proofs.OneOwner.{repaired-length}
-use Rattle.bounding.specs.Numbered.{boundaryNumbers}
-use Rattle.set_bytes.specs.Sets.{setsOutcome}
-use Rattle.answers.specs.Answers.{afterRepair, numbersAfter}
-use Rattle.answers.specs.Held.{ownersOutcome, sidesHeld, sidesOutcome}
+use Rattle.repair_sides.specs.Numbered.{boundaryNumbers}
+use Rattle.lent_sets.specs.Sets.{setsOutcome}
+use Rattle.repair_answers.specs.Answers.{afterRepair, numbersAfter}
+use Rattle.repair_answers.specs.Held.{ownersOutcome, sidesHeld, sidesOutcome}
 use Rattle.listing.specs.Listing.{listing}
 use Rattle.judged.specs.Judged.{judgedSheet, refusal as refused}
 use Rattle.judged.specs.Held.{Stands}

@@ -10,12 +10,12 @@ use lib.Dec.{eqb}
 use lib.ListN.{length, length-map}
 use Rattle.plane.specs.Corners.{millimetres}
 use Rattle.sheet.specs.declared.Ending.the-variants.{Sheet, Refused}
-use Rattle.sheet.specs.Numbers.{Sheet as InNumbers, numbersOf}
+use Rattle.sheet_form.specs.Numbers.{Sheet as InNumbers, numbersOf}
 use Rattle.sheet.specs.Reading.{Reading, readingOf}
 use Rattle.sheet.specs.Going.{readOf}
-use Rattle.standard.proofs.Standard.{Reads}
+use Rattle.sheet_standard.proofs.Standard.{Reads}
 use Rattle.lent.specs.Answered.{refusal, bytes}
-use Rattle.little.specs.Bytes.{i32, heldBytes}
+use Rattle.lent_little.specs.Bytes.{i32, heldBytes}
 use Rattle.outcomes.specs.Entries.{numbersOutcome, sheetNumbers}
 
 pub refused-is : (r : Reading) (code item : ℕ) → readOf r ≡ Refused code item → numbersOutcome r ≡ refusal code item

@@ -17,17 +17,17 @@ use Rattle.plane.specs.Points.{Triangle, sides, double}
 use Rattle.plane.specs.Boundaries.{sidesOf}
 use Rattle.plane.specs.Members.{doubleArea}
 use Rattle.table.specs.Opposites.{opposites}
-use Rattle.marks.specs.Marks.{standingOf}
-use Rattle.regions.specs.Regions.{from}
-use Rattle.regions.proofs.Regions.{length-map-from}
+use Rattle.owners_marks.specs.Marks.{standingOf}
+use Rattle.repair_regions.specs.Regions.{from}
+use Rattle.repair_regions.proofs.Regions.{length-map-from}
 use Rattle.repair.specs.Repair.{repaired}
-use Rattle.bounding.specs.Sides.{unmatched, boundarySides, ownedBy, trianglesOwned}
-use Rattle.figures.proofs.Totals.{chosen-fewer}
-use Rattle.sheet.specs.Numbers.{Sheet}
-use Rattle.text.specs.Text.{digits, decimal, decimalOf, lineOf}
-use Rattle.printing.specs.Lines.{sheetWord, polygonWord, gapWord, overlapWord, afterWord, refusedWord, cleanLine, repairLine, numbered}
+use Rattle.repair_sides.specs.Sides.{unmatched, boundarySides, ownedBy, trianglesOwned}
+use Rattle.listing_figures.proofs.Totals.{chosen-fewer}
+use Rattle.sheet_form.specs.Numbers.{Sheet}
+use Rattle.lent_text.specs.Text.{digits, decimal, decimalOf, lineOf}
+use Rattle.listing_lines.specs.Lines.{sheetWord, polygonWord, gapWord, overlapWord, afterWord, refusedWord, cleanLine, repairLine, numbered}
 use Rattle.listing.specs.Listing.{figureLine, gapsOf, overlapsOf, verdictLine, afterLines, headOf, listingOf}
-use Rattle.figures.specs.Standings.{isSingle}
+use Rattle.listing_figures.specs.Standings.{isSingle}
 use Rattle.outcomes.specs.Entries.{ownedSides}
 
 -- ---- lines

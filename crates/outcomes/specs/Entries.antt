@@ -8,17 +8,17 @@ use lib.ListN.{length}
 use Rattle.plane.specs.Points.{Edge}
 use Rattle.plane.specs.Boundaries.{sidesOf}
 use Rattle.table.specs.Opposites.{opposites}
-use Rattle.sheet.specs.Numbers.{Sheet}
+use Rattle.sheet_form.specs.Numbers.{Sheet}
 use Rattle.sheet.specs.Reading.{Reading, readingOf}
-use Rattle.written.specs.Given.{sheetGiven, writeOutcome}
+use Rattle.sheet_written.specs.Given.{sheetGiven, writeOutcome}
 use Rattle.judged.specs.Judged.{JudgedSheet, judged, refusal as refused, judgedSheet}
 use Rattle.repair.specs.Repair.{repaired}
-use Rattle.bounding.specs.Sides.{boundarySides, trianglesOwned}
+use Rattle.repair_sides.specs.Sides.{boundarySides, trianglesOwned}
 use Rattle.lent.specs.Answered.{Outcome, refusal, bytes}
-use Rattle.little.specs.Bytes.{heldBytes, sideBytes}
+use Rattle.lent_little.specs.Bytes.{heldBytes, sideBytes}
 use Rattle.listing.specs.Listing.{listing}
-use Rattle.set_bytes.specs.Sets.{setsOutcome}
-use Rattle.answers.specs.Answers.{afterRepair, numbersAfter}
+use Rattle.lent_sets.specs.Sets.{setsOutcome}
+use Rattle.repair_answers.specs.Answers.{afterRepair, numbersAfter}
 
 -- The numbers form of a reading, its length in bytes being the item; or the reading's refusal.
 abbrev pub numbersOutcome : Reading → Outcome

@@ -11,8 +11,8 @@ use Rattle.plane.specs.Points.{Triangle}
 use Rattle.plane.specs.Members.{Member}
 use Rattle.table.specs.Table.{RuleA, RuleB, RuleC, Checked, passed, refused, checkTable}
 use Rattle.table.proofs.Rules.{passes}
-use Rattle.marks.specs.Marks.{ownerSets}
-use Rattle.marks.proofs.Owning.{bit-stands}
+use Rattle.owners_marks.specs.Marks.{ownerSets}
+use Rattle.owners_marks.proofs.Owning.{bit-stands}
 use Rattle.owners.specs.Judging.{Judged, carried, notCarried, judge, AreaOfOwnership}
 use Rattle.owners.specs.Owners.{Ownership, owned, notCarriedAt, followed, judgeFrom, sets, ofOwnership, ofChecked, ownersOf}
 use Rattle.owners.proofs.Carried.{answered}

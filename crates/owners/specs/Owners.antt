@@ -6,7 +6,7 @@ use lib.ListN.{length}
 use Rattle.plane.specs.Points.{Triangle}
 use Rattle.plane.specs.Members.{Member}
 use Rattle.table.specs.Table.{Checked, passed, refused, checkTable}
-use Rattle.marks.specs.Marks.{ownerSets}
+use Rattle.owners_marks.specs.Marks.{ownerSets}
 use Rattle.owners.specs.Judging.{Judged, carried, notCarried, code, judge}
 
 -- What the judging of all polygons comes to: the set of each, or the number of the first that is not carried.

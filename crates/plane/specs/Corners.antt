@@ -2,6 +2,10 @@
 use Prim.Native.Nat.{ℕ}
 use lib.IntN.{ℤ, pos, _-ℤ_}
 
+-- What a number is held with besides itself.
+abbrev pub offset : ℕ
+offset = 10_000_000
+
 -- The coordinate, in millimetres, that a held number stands for.
 abbrev pub millimetres : ℕ → ℤ
-millimetres n = pos n -ℤ pos 10_000_000
+millimetres n = pos n -ℤ pos offset

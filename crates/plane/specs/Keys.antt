@@ -1,8 +1,9 @@
 -- Corners as the code holds them, and as one number each, so that the order of the numbers is the order of the corners by x, then by y.
 use mathlib.Core.List.{List, [], _∷_, map}
 use Prim.Native.Nat.{ℕ, _+_, _*_, _/_, _%_, _^_, _≤_}
+use lib.ListN.{getD}
 use Rattle.plane.specs.declared.Corner.{Corner}
-use Rattle.plane.specs.Points.{Point, Edge, _⟶_}
+use Rattle.plane.specs.Points.{Point, Edge, _⟶_, Triangle}
 use Rattle.plane.specs.Corners.{millimetres}
 
 -- The point that a held corner stands for.
@@ -36,6 +37,10 @@ Key k = InRange (cornerOf k)
 -- The ordered pair of two corners.
 abbrev pub pair : ℕ → ℕ → Edge
 pair u v = pointAt u ⟶ pointAt v
+
+-- The triangle of number t, counted from 0, off the numbers of the corners, three for each triangle.
+abbrev pub triangleAt : List ℕ → ℕ → Triangle
+triangleAt keys t = record { a = pointAt (getD keys (3 * t) 0); b = pointAt (getD keys (3 * t + 1) 0); c = pointAt (getD keys (3 * t + 2) 0) }
 
 -- The points of a list of numbers.
 abbrev pub pointsAt : List ℕ → List Point

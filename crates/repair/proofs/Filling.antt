@@ -8,7 +8,7 @@ use native.Mathlib.Decide.{ℕ-discrete}
 use lib.Dec.{leb}
 use lib.ListN.{length, getD, set, length-set}
 use lib.Seq.{getD-set-same, getD-set-other}
-use Rattle.marks.specs.Marks.{standingOf}
+use Rattle.owners_marks.specs.Marks.{standingOf}
 use Rattle.repair.specs.Repair.{settledBy, settled, greater, beyond}
 use Rattle.repair.specs.Giving.{Filled}
 use Rattle.repair.proofs.Largest.{greater-left, greater-right}

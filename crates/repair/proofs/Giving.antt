@@ -13,10 +13,10 @@ use lib.Dec.{eqb}
 use lib.ListN.{length, getD, take, replicate, length-replicate, length-append}
 use lib.Seq.{ext-getD, take-at, length-take-le}
 use Rattle.whole.specs.Sums.{every}
-use Rattle.regions.specs.Regions.{from, gap, region, Joined, self, step}
-use Rattle.regions.specs.Spreading.{Paired, marked, Meeting, Grown, Fresh, Spread}
-use Rattle.regions.proofs.Regions.{length-map-from, map-from-at, joined-sym, region-has, region-same, not-both}
-use Rattle.regions.proofs.Spreading.{in-table, in-region}
+use Rattle.repair_regions.specs.Regions.{from, gap, region, Joined, self, step}
+use Rattle.repair_regions.specs.Spreading.{Paired, marked, Meeting, Grown, Fresh, Spread}
+use Rattle.repair_regions.proofs.Regions.{length-map-from, map-from-at, joined-sym, region-has, region-same, not-both}
+use Rattle.repair_regions.proofs.Spreading.{in-table, in-region}
 use Rattle.repair.specs.Repair.{settled, greater, beyond, largest, ownerOf, repaired}
 use Rattle.repair.specs.Giving.{RepairedTo}
 use Rattle.repair.specs.Giving.{Best, Filled, State, Further}

@@ -10,7 +10,7 @@ use borrow.Author.Tests.{leb-true, leb-false}
 use lib.Dec.{leb}
 use lib.ListN.{length, getD}
 use Rattle.whole.specs.Sums.{passing}
-use Rattle.regions.specs.Regions.{from}
+use Rattle.repair_regions.specs.Regions.{from}
 use Rattle.repair.specs.Repair.{greater, greatest, beyond, largest}
 
 -- ---- the greater of two numbers

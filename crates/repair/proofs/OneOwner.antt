@@ -15,8 +15,7 @@ use lib.Dec.{eqb}
 use lib.ListN.{length, getD, length-map, List·getD-eq-default}
 use lib.Seq.{ext-getD}
 use Rattle.whole.specs.Sums.{All, Among, every, bit, count}
-use Rattle.whole.proofs.Sums.{all-at, all-of, all-image}
-use Rattle.whole.proofs.Tests.{by-equal}
+use Rattle.whole.proofs.Sums.{all-at}
 use Rattle.plane.specs.Points.{flip, sameEdge}
 use Rattle.plane.specs.Boundaries.{sidesOf}
 use Rattle.table.specs.Table.{RuleA, RuleB, RuleC}
@@ -25,11 +24,11 @@ use Rattle.table.specs.Sides.{Closed, trianglesOf}
 use Rattle.table.specs.Opposites.{opposites}
 use Rattle.table.proofs.Shares.{length-triangles, length-opposites, among-side, opposite-some, opposite-is, fewer-sides, side-count}
 use Rattle.table.proofs.Connected.{connected}
-use Rattle.marks.specs.Marks.{ownersIn, standingBy, standingOf}
-use Rattle.marks.proofs.Bits.{owners-above, owners-within, owners-ascending}
-use Rattle.regions.specs.Regions.{from, gap, region, Joined}
-use Rattle.regions.specs.Spreading.{Paired}
-use Rattle.regions.proofs.Regions.{map-from-at, length-map-from, joined-gap, joined-within, region-own, region-closed, region-has, region-same, region-length, not-both}
+use Rattle.owners_marks.specs.Marks.{ownersIn, standingBy, standingOf}
+use Rattle.owners_marks.proofs.Bits.{owners-above, owners-within, owners-ascending}
+use Rattle.repair_regions.specs.Regions.{from, gap, region, Joined}
+use Rattle.repair_regions.specs.Spreading.{Paired}
+use Rattle.repair_regions.proofs.Regions.{map-from-at, length-map-from, joined-gap, joined-within, region-own, region-closed, region-has, region-same, region-length, not-both}
 use Rattle.repair.specs.Repair.{settledBy, settled, beyond, largest, ownerOf, repaired}
 use Rattle.repair.specs.OneOwner.{ownersOf, ownersAt, OneOwner}
 use Rattle.repair.proofs.Largest.{largest-above, largest-found}
@@ -146,12 +145,18 @@ unowned set h = (none-of set h, λ e. ap ownersOf e ∙ of-none)
 pub length-settled : (sets : List ℕ) → length (settled sets) ≡ length sets
 length-settled sets = length-map sets (λ set. settledBy (standingOf set))
 
-settled-high : (sets : List ℕ) (t : ℕ) → getD (settled sets) t 0 ≤ 64
-settled-high sets t = go (ownersAt sets t) (settled-at sets t) (owners-high (getD sets t 0))
+-- A settled number is at most 64.
+pub settled-small : (set : ℕ) → settledBy (standingOf set) ≤ 64
+settled-small set = go (ownersOf set) (settled-of set) (owners-high set)
   where
-    go : (l : List ℕ) → getD (settled sets) t 0 ≡ getD l 0 0 → All (λ x. x ≤ 0 + 64) l → getD (settled sets) t 0 ≤ 64
+    go : (l : List ℕ) → settledBy (standingOf set) ≡ getD l 0 0 → All (λ x. x ≤ 0 + 64) l → settledBy (standingOf set) ≤ 64
     go [] e h = omega arith
     go (x ∷ l) e h = omega (arith, h .0)
+
+settled-high : (sets : List ℕ) (t : ℕ) → getD (settled sets) t 0 ≤ 64
+settled-high [] t = omega arith
+settled-high (x ∷ sets) zero = settled-small x
+settled-high (x ∷ sets) (suc t) = settled-high sets t
 
 -- A gap is a triangle with no owner.
 pub gap-is : (opposite sets : List ℕ) (t : ℕ) → (gap opposite (settled sets) t ≡ true) ↔ (ownersAt sets t ≡ [])
@@ -369,20 +374,9 @@ module _ (opposite sets : List ℕ) where
       go true f e = absurd (Option·some-ne-none l (sym e))
       go false f e = (f, Option·some-injective answered l e)
 
-  -- The answer of repair has a number for each triangle,
+  -- The answer of repair has a number for each triangle.
   pub repaired-length : (l : List ℕ) → repaired opposite sets ≡ some l → length l ≡ length sets
   repaired-length l e = ap length (sym (repaired-answered l e .1)) ∙ length-map-from (ownerOf opposite numbers) 0 (length sets)
-
-  -- which is at most 64.
-  pub repaired-small : (l : List ℕ) → repaired opposite sets ≡ some l → All (λ o. o ≤ 64) l
-  repaired-small l e =
-      subst (All (λ o. o ≤ 64)) (repaired-answered l e .1)
-      (all-image (ownerOf opposite numbers) (λ o. o ≤ 64) (from 0 (length sets)) (all-of (λ t. ownerOf opposite numbers t ≤ 64) owner-high (from 0 (length sets))))
-    where
-      owner-high : (t : ℕ) → ownerOf opposite numbers t ≤ 64
-      owner-high t =
-          by-equal (λ o. o ≤ 64) (gap opposite numbers t) (largest opposite numbers (region opposite numbers t)) (getD numbers t 0)
-          (λ g. largest-high (region opposite numbers t)) (λ g. settled-high sets t)
 
   -- With sides that pair up and connect the triangles, the answer of repair is one,
   pub repaired-one : Paired opposite (length sets) → Connects opposite (length sets) → (l : List ℕ) → repaired opposite sets ≡ some l → OneOwner opposite sets l

@@ -6,8 +6,8 @@ use mathlib.Core.List.{List}
 use mathlib.Core.Option.{Option, none, some}
 use Prim.Native.Nat.{ℕ, _/_, _≤_, _<_}
 use lib.ListN.{length, getD}
-use Rattle.regions.specs.Regions.{region}
-use Rattle.regions.specs.Spreading.{Meeting, Spread}
+use Rattle.repair_regions.specs.Regions.{region}
+use Rattle.repair_regions.specs.Spreading.{Meeting, Spread}
 use Rattle.repair.specs.Repair.{beyond, largest}
 
 -- The largest number across the sides of the triangles of the group from `first` on and before i; 0 where there is none.

@@ -5,8 +5,8 @@ use Prim.Native.Nat.{ℕ, suc, _/_, _≤_, _<_}
 use lib.Dec.{eqb}
 use lib.ListN.{length, getD}
 use Rattle.whole.specs.Sums.{Among}
-use Rattle.marks.specs.Marks.{ownersIn}
-use Rattle.regions.specs.Regions.{Joined}
+use Rattle.owners_marks.specs.Marks.{ownersIn}
+use Rattle.repair_regions.specs.Regions.{Joined}
 use Rattle.repair.specs.Repair.{settled}
 
 -- The owners in a set, in ascending order, and those of triangle t.

@@ -7,10 +7,10 @@ use Prim.Native.Nat.{ℕ, zero, suc, _/_}
 use lib.Dec.{eqb, leb}
 use lib.ListN.{length, getD}
 use Rattle.whole.specs.Sums.{every, passing}
-use Rattle.marks.specs.declared.Standing.{Standing}
-use Rattle.marks.specs.declared.Standing.the-variants.{Gap, Single, Overlap}
-use Rattle.marks.specs.Marks.{standingOf}
-use Rattle.regions.specs.Regions.{from, gap, region}
+use Rattle.owners_marks.specs.declared.Standing.{Standing}
+use Rattle.owners_marks.specs.declared.Standing.the-variants.{Gap, Single, Overlap}
+use Rattle.owners_marks.specs.Marks.{standingOf}
+use Rattle.repair_regions.specs.Regions.{from, gap, region}
 
 -- The owner number of a triangle once the overlaps are settled; 0 for a gap.
 abbrev pub settledBy : Standing → ℕ

@@ -6,25 +6,25 @@ ghost use Prim.Native.Nat.{ℕ, _*_, _+_, _≤_, _<_};
 ghost use lib.Dec.{eqb};
 ghost use lib.ListN.{length, getD, replicate};
 ghost use Rattle.whole.specs.Sums.{every};
-ghost use Rattle.marks.specs.Marks.{standingOf};
-ghost use Rattle.regions.specs.Regions.{from};
-ghost use Rattle.regions.specs.Spreading.{Paired};
+ghost use Rattle.owners_marks.specs.Marks.{standingOf};
+ghost use Rattle.repair_regions.specs.Regions.{from};
+ghost use Rattle.repair_regions.specs.Spreading.{Paired};
 ghost use Rattle.repair.specs.Repair.{settledBy, settled, greater, beyond, ownerOf, repaired};
 ghost use Rattle.repair.specs.Giving.{RepairedTo, Best, Filled, State, Further};
 
 // The owner number of a triangle once the overlaps are settled; 0 for a gap.
-fn owner_of(set: u64) -> usize
+fn owner_of(set: u64) -> u8
     ensures { λ r. ⌜ r ≡ settledBy (standingOf set) ⌝ }
 {
-    match marks::standing_of(set) {
-        marks::Standing::Gap => 0,
-        marks::Standing::Single(k) => k as usize,
-        marks::Standing::Overlap(k) => k as usize,
+    match owners_marks::standing_of(set) {
+        owners_marks::Standing::Gap => 0,
+        owners_marks::Standing::Single(k) => k as u8,
+        owners_marks::Standing::Overlap(k) => k as u8,
     }
 }
 
 // The owner number of each triangle once the overlaps are settled.
-fn settle(sets: &[u64], numbers: &mut [usize])
+fn settle(sets: &[u64], numbers: &mut [u8])
     requires { ⌜ length (now sets) ≡ length (now numbers) ⌝ }
     ensures { λ _. ⌜ now (numbers .exit) ≡ settled (now (sets .entry)) ⌝ }
 {
@@ -36,7 +36,7 @@ fn settle(sets: &[u64], numbers: &mut [usize])
 }
 
 // The greater of the number across side k and one at hand.
-fn with_side(opposite: &[usize], numbers: &[usize], k: usize, best: usize) -> usize
+fn with_side(opposite: &[usize], numbers: &[u8], k: usize, best: u8) -> u8
     requires { ⌜ Paired (now opposite) (length (now numbers)) × (k < length (now opposite)) ⌝ }
     ensures { λ r. ⌜ r ≡ greater best (beyond (now (opposite .entry)) (now (numbers .entry)) (getD (now (opposite .entry)) k 0)) ⌝ }
 {
@@ -52,7 +52,7 @@ fn with_side(opposite: &[usize], numbers: &[usize], k: usize, best: usize) -> us
 }
 
 // The triangles of the group from `first` on and before n are given to one owner.
-fn fill(group: &[usize], first: usize, n: usize, owner: usize, owners: &mut [usize])
+fn fill(group: &[usize], first: usize, n: usize, owner: u8, owners: &mut [u8])
     requires { ⌜ (first ≤ n) × (n ≤ length (now group)) × ((j : ℕ) → j < n → getD (now group) j 0 < length (now owners)) ⌝ }
     ensures { λ _. ⌜ Filled (now (group .entry)) first n owner (now (owners .entry)) (now (owners .exit)) ⌝ }
 {
@@ -64,7 +64,7 @@ fn fill(group: &[usize], first: usize, n: usize, owner: usize, owners: &mut [usi
 }
 
 // The greatest of the numbers across the sides of triangle u and one at hand.
-fn with_triangle(opposite: &[usize], numbers: &[usize], u: usize, best: usize) -> usize
+fn with_triangle(opposite: &[usize], numbers: &[u8], u: usize, best: u8) -> u8
     requires { ⌜ Paired (now opposite) (length (now numbers)) × (u < length (now numbers)) ⌝ }
     ensures { λ r. ⌜ r ≡ greater (greater (greater best (beyond (now (opposite .entry)) (now (numbers .entry)) (getD (now (opposite .entry)) (3 * u) 0)))
         (beyond (now (opposite .entry)) (now (numbers .entry)) (getD (now (opposite .entry)) (3 * u + 1) 0)))
@@ -77,11 +77,11 @@ fn with_triangle(opposite: &[usize], numbers: &[usize], u: usize, best: usize) -
 }
 
 // The largest number across the sides of the triangles of the group from `first` on and before n.
-fn highest(opposite: &[usize], numbers: &[usize], group: &[usize], first: usize, n: usize) -> usize
+fn highest(opposite: &[usize], numbers: &[u8], group: &[usize], first: usize, n: usize) -> u8
     requires { ⌜ Paired (now opposite) (length (now numbers)) × (first ≤ n) × (n ≤ length (now group)) × ((j : ℕ) → j < n → getD (now group) j 0 < length (now numbers)) ⌝ }
     ensures { λ r. ⌜ Best (now (opposite .entry)) (now (numbers .entry)) (now (group .entry)) first n r ⌝ }
 {
-    let mut best: usize = 0;
+    let mut best: u8 = 0;
     let mut i = first;
     while i < n {
         best = with_triangle(opposite, numbers, group[i], best);
@@ -93,12 +93,12 @@ fn highest(opposite: &[usize], numbers: &[usize], group: &[usize], first: usize,
 // The region of triangle t, where it is a gap that has not been met, is given to the largest number across its sides.
 fn give(
     opposite: &[usize],
-    numbers: &[usize],
+    numbers: &[u8],
     t: usize,
     met: &mut [bool],
     group: &mut [usize],
     first: usize,
-    owners: &mut [usize],
+    owners: &mut [u8],
 ) -> usize
     requires { ⌜ Paired (now opposite) (length (now numbers)) × State (now opposite) (now numbers) (now met) (now group) first (now owners) × (t < length (now numbers)) ⌝ }
     ensures { λ r. ⌜ State (now (opposite .entry)) (now (numbers .entry)) (now (met .exit)) (now (group .exit)) r (now (owners .exit))
@@ -110,7 +110,7 @@ fn give(
     if met[t] {
         return first;
     }
-    let n = regions::collect(opposite, numbers, t, met, group, first);
+    let n = repair_regions::collect(opposite, numbers, t, met, group, first);
     let owner = highest(opposite, numbers, group, first, n);
     fill(group, first, n, owner, owners);
     n
@@ -119,10 +119,10 @@ fn give(
 // Each gap region is given to the largest number across its sides; the other triangles keep theirs.
 fn give_all(
     opposite: &[usize],
-    numbers: &[usize],
+    numbers: &[u8],
     met: &mut [bool],
     group: &mut [usize],
-    owners: &mut [usize],
+    owners: &mut [u8],
 )
     requires { ⌜ Paired (now opposite) (length (now numbers)) × (now met ≡ replicate (length (now numbers)) false) × (length (now group) ≡ length (now numbers)) × (now owners ≡ now numbers) ⌝ }
     ensures { λ _. ⌜ now (owners .exit) ≡ map (ownerOf (now (opposite .entry)) (now (numbers .entry))) (from 0 (length (now (numbers .entry)))) ⌝ }
@@ -136,7 +136,7 @@ fn give_all(
 }
 
 // No triangle has an owner.
-fn none_owned(numbers: &[usize]) -> bool
+fn none_owned(numbers: &[u8]) -> bool
     ensures { λ r. ⌜ r ≡ every (eqb 0) (now (numbers .entry)) ⌝ }
 {
     let mut t: usize = 0;
@@ -149,28 +149,15 @@ fn none_owned(numbers: &[usize]) -> bool
     true
 }
 
-// Work lists for the largest table: a number for each triangle, and a mark for each, none set.
-fn number_list() -> [usize; 1024]
-    ensures { λ r. ⌜ 1024 ≡ length r ⌝ }
-{
-    [0; 1024]
-}
-
-fn mark_list() -> [bool; 1024]
-    ensures { λ r. ⌜ r ≡ replicate 1024 false ⌝ }
-{
-    [false; 1024]
-}
-
 // Repair: the owner number of each triangle, from the owner sets. False where no triangle has an owner: repair can't be done, and the list is as it was.
-pub fn repair(opposite: &[usize], sets: &[u64], owners: &mut [usize]) -> bool
+pub fn repair(opposite: &[usize], sets: &[u64], owners: &mut [u8]) -> bool
     requires { ⌜ Paired (now opposite) (length (now sets)) × (length (now owners) ≡ length (now sets)) × (length (now sets) ≤ 1024) ⌝ }
     ensures { λ r. ⌜ RepairedTo (repaired (now (opposite .entry)) (now (sets .entry))) (now (owners .entry)) r (now (owners .exit)) ⌝ }
 {
     let n = sets.len();
-    let mut numbers = number_list();
-    let mut met = mark_list();
-    let mut group = number_list();
+    let mut numbers = [0u8; 1024];
+    let mut met = [false; 1024];
+    let mut group = [0usize; 1024];
     settle(sets, &mut numbers[..n]);
     if none_owned(&numbers[..n]) {
         return false;

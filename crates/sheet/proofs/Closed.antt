@@ -9,7 +9,7 @@ use native.Mathlib.Omega.{arith}
 use borrow.Author.Tests.{ltb-true, ltb-false, lt-ltb, leb-true, eqb-true}
 use lib.Dec.{ltb, eqb}
 use Rattle.whole.proofs.Tests.{by-equal, by-cond}
-use Rattle.little.specs.Ordered.{remains, wordAt}
+use Rattle.lent_little.specs.Ordered.{remains, wordAt}
 use Rattle.wkb.specs.declared.Cursor.{Cursor}
 use Rattle.wkb.specs.declared.Step.{Step}
 use Rattle.wkb.specs.declared.Step.the-variants.{Geometry, Ring, Point, End, Refused}

@@ -8,15 +8,15 @@ use native.Mathlib.Omega.{arith}
 use lib.Dec.{T, leb, ltb, eqb, leb→le, ltb→lt, nltb→le, eqb→eq, T-not, not-T}
 use lib.ListN.{length, getD, set, length-set}
 use Rattle.whole.proofs.Tests.{by-cond, by-test}
-use Rattle.coordinate.specs.Coordinate.{coordinateOf}
-use Rattle.coordinate.specs.declared.Coordinate.{Coordinate}
-use Rattle.coordinate.specs.declared.Coordinate.the-variants.{Whole, Not}
+use Rattle.sheet_coordinate.specs.Coordinate.{coordinateOf}
+use Rattle.sheet_coordinate.specs.declared.Coordinate.{Coordinate}
+use Rattle.sheet_coordinate.specs.declared.Coordinate.the-variants.{Whole, Not}
 use Rattle.whole.proofs.Sums.{and-left, and-right, and-both}
 use Rattle.wkb.specs.declared.Cursor.{Cursor}
-use Rattle.kinds.specs.declared.Slot.{Slot}
-use Rattle.kinds.specs.declared.Slot.the-variants.{Sheet, Table, Piece, Part, Member}
+use Rattle.wkb_kinds.specs.declared.Slot.{Slot}
+use Rattle.wkb_kinds.specs.declared.Slot.the-variants.{Sheet, Table, Piece, Part, Member}
 use Rattle.wkb.specs.declared.Step.{Step}
-use Rattle.little.specs.Ordered.{remains, wordAt, doubleAt}
+use Rattle.lent_little.specs.Ordered.{remains, wordAt, doubleAt}
 use Rattle.wkb.specs.Steps.{start, slotOf, complete, kindFault, countFits, popped, withRings, withParts, withSheet, fewerParts, opened, geometryAt, ringFits, ringAt, afterPoint, pointAt, endAt, stepAt}
 use Rattle.wkb.proofs.Steps.{pops, members-opened}
 use Rattle.sheet.specs.Reading.{Taken, Reading, Turn, on, over, held, begin, polygon, opening, noted, judged, taken, turn, run, readingOf, nothing}

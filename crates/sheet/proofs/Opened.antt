@@ -12,9 +12,9 @@ use denote.Enum.Declared.{tagOf}
 use lib.Dec.{ltb, eqb}
 use lib.ListN.{getD}
 use Rattle.whole.proofs.Tests.{by-equal, by-cond}
-use Rattle.kinds.specs.declared.Slot.{Slot}
-use Rattle.kinds.specs.declared.Slot.the-variants.{Sheet, Table, Piece, Part, Member}
-use Rattle.little.specs.Ordered.{remains, wordAt}
+use Rattle.wkb_kinds.specs.declared.Slot.{Slot}
+use Rattle.wkb_kinds.specs.declared.Slot.the-variants.{Sheet, Table, Piece, Part, Member}
+use Rattle.lent_little.specs.Ordered.{remains, wordAt}
 use Rattle.wkb.specs.declared.Cursor.{Cursor}
 use Rattle.wkb.specs.declared.Step.{Step}
 use Rattle.wkb.specs.declared.Step.the-variants.{Geometry, Ring, Point, End, Refused}

@@ -8,16 +8,16 @@ use native.Mathlib.Omega.{arith}
 use lib.Dec.{ltb, eqb, leb→le}
 use lib.ListN.{length, getD}
 use Rattle.whole.proofs.Tests.{by-cond}
-use Rattle.coordinate.specs.Coordinate.{coordinateOf}
-use Rattle.coordinate.specs.declared.Coordinate.{Coordinate}
-use Rattle.coordinate.specs.declared.Coordinate.the-variants.{Whole, Not}
+use Rattle.sheet_coordinate.specs.Coordinate.{coordinateOf}
+use Rattle.sheet_coordinate.specs.declared.Coordinate.{Coordinate}
+use Rattle.sheet_coordinate.specs.declared.Coordinate.the-variants.{Whole, Not}
 use Rattle.wkb.specs.declared.Cursor.{Cursor}
 use Rattle.wkb.specs.Places.{moved, pointsToCome}
-use Rattle.kinds.specs.declared.Slot.{Slot}
-use Rattle.kinds.specs.declared.Slot.the-variants.{Sheet, Table, Piece, Part, Member}
+use Rattle.wkb_kinds.specs.declared.Slot.{Slot}
+use Rattle.wkb_kinds.specs.declared.Slot.the-variants.{Sheet, Table, Piece, Part, Member}
 use Rattle.wkb.specs.declared.Step.{Step}
 use Rattle.wkb.specs.declared.Step.the-variants.{Geometry, Ring, Point, End, Refused}
-use Rattle.little.specs.Ordered.{remains, wordAt}
+use Rattle.lent_little.specs.Ordered.{remains, wordAt}
 use Rattle.wkb.specs.Steps.{start, slotOf, complete, renewed, kindFault, countFits, popped, withRings, withParts, withSheet, fewerParts, opened, geometryAt, ringFits, withPoints, ringAt, afterPoint, pointAt, endAt, stepAt}
 use Rattle.wkb.proofs.Steps.{pops, members-opened}
 use Rattle.sheet.specs.Reading.{Taken, Reading, Turn, on, over, noted, judged, taken, turn, run, readingOf, nothing}

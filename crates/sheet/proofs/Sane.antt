@@ -8,11 +8,11 @@ use lib.ListN.{length, getD}
 use Rattle.whole.proofs.Tests.{by-cond}
 use Rattle.whole.proofs.Sums.{and-left, and-right}
 use Rattle.wkb.specs.declared.Cursor.{Cursor}
-use Rattle.kinds.specs.declared.Slot.{Slot}
-use Rattle.kinds.specs.declared.Slot.the-variants.{Sheet, Table, Piece, Part, Member}
+use Rattle.wkb_kinds.specs.declared.Slot.{Slot}
+use Rattle.wkb_kinds.specs.declared.Slot.the-variants.{Sheet, Table, Piece, Part, Member}
 use Rattle.wkb.specs.declared.Step.{Step}
 use Rattle.wkb.specs.declared.Step.the-variants.{Geometry, Ring, Point, End, Refused}
-use Rattle.little.specs.Ordered.{remains, wordAt}
+use Rattle.lent_little.specs.Ordered.{remains, wordAt}
 use Rattle.wkb.specs.Steps.{slotOf, complete, renewed, kindFault, countFits, upTo, popped, withRings, withParts, withSheet, fewerParts, opened, geometryAt, ringFits, withPoints, ringAt, afterPoint, pointAt, endAt, stepAt}
 use Rattle.wkb.proofs.Steps.{pops, members-opened}
 use Rattle.sheet.specs.Going.{Sane}

@@ -1,5 +1,6 @@
--- A sheet in numbers: its numbers form, and reading it from bytes by steps.
-pub mod Numbers
+-- Reading a sheet from bytes by steps; the sheet that was read, and a sheet as the code holds it.
 pub mod Reading
 pub mod Going
 pub mod Behind
+pub mod Read
+pub mod Held

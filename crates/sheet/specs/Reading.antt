@@ -4,12 +4,12 @@ use mathlib.Core.List.{List, [], _∷_, _++_}
 use Prim.Native.Nat.{ℕ, zero, suc, _+_}
 use lib.Dec.{eqb}
 use lib.ListN.{length, set}
-use Rattle.coordinate.specs.Coordinate.{coordinateOf}
-use Rattle.coordinate.specs.declared.Coordinate.{Coordinate}
-use Rattle.coordinate.specs.declared.Coordinate.the-variants.{Whole, Not}
+use Rattle.sheet_coordinate.specs.Coordinate.{coordinateOf}
+use Rattle.sheet_coordinate.specs.declared.Coordinate.{Coordinate}
+use Rattle.sheet_coordinate.specs.declared.Coordinate.the-variants.{Whole, Not}
 use Rattle.wkb.specs.declared.Cursor.{Cursor}
-use Rattle.kinds.specs.declared.Slot.{Slot}
-use Rattle.kinds.specs.declared.Slot.the-variants.{Sheet, Table, Piece, Part, Member}
+use Rattle.wkb_kinds.specs.declared.Slot.{Slot}
+use Rattle.wkb_kinds.specs.declared.Slot.the-variants.{Sheet, Table, Piece, Part, Member}
 use Rattle.wkb.specs.declared.Step.{Step}
 use Rattle.wkb.specs.declared.Step.the-variants.{Geometry, Ring, Point, End, Refused}
 use Rattle.wkb.specs.Steps.{codeOf, itemOf, start, refusal, slotOf, stepAt}

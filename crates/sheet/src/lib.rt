@@ -6,15 +6,16 @@ ghost use Prim.Native.Nat.{ℕ, _+_, _≤_, _<_, _^_};
 ghost use lib.ListN.{set};
 ghost use Rattle.sheet.specs.Reading;
 ghost use Rattle.sheet.specs.Reading.{Taken, readingOf};
-ghost use Rattle.coordinate.specs.Coordinate.{coordinateOf};
+ghost use Rattle.sheet_coordinate.specs.Coordinate.{coordinateOf};
 ghost use Rattle.wkb.specs.declared.Step.the-variants.{Point};
 ghost use Rattle.sheet.specs.Going.{laid, Shows, Turned, Within, Ready, Leads, Follows, readOf};
 ghost use Rattle.sheet.specs.Behind.{closed, behindAll, Stands, Row, To, Past};
-use coordinate::Coordinate;
-use kinds::Kind;
-use kinds::Slot;
+use plane::OFFSET;
+use sheet_coordinate::Coordinate;
 use wkb::Cursor;
 use wkb::Step;
+use wkb_kinds::Kind;
+use wkb_kinds::Slot;
 
 // What was read so far, beside the numbers themselves: how many there are, where the number of the open member's polygons stands among
 // them, whether the open ring's first point is still to come, and that point.
@@ -65,7 +66,7 @@ fn begin(mut b: Build, numbers: &mut [u32]) -> Build
 {
     let at = b.fill;
     b.mark = at;
-    push(b, 10_000_000, numbers)
+    push(b, OFFSET, numbers)
 }
 
 // The number of the open member's polygons so far, stored where it stands.
@@ -75,7 +76,7 @@ fn tally(b: Build, n: u32, numbers: &mut [u32])
 {
     let mark = b.mark;
     if mark < b.fill {
-        put(numbers, mark, n + 10_000_000);
+        put(numbers, mark, n + OFFSET);
     }
 }
 
@@ -85,7 +86,7 @@ fn polygon(next: Cursor, n: u32, b: Build, numbers: &mut [u32]) -> Build
     ensures { λ r. ⌜ (r .fill ≡ b .fill + 1) × ((t : Taken) (out : List ℕ) → Shows out t b (now (numbers .entry)) → Shows out (Reading.polygon next n t) r (now (numbers .exit))) ⌝ }
 {
     tally(b, next.polygons, numbers);
-    push(b, n + 10_000_000, numbers)
+    push(b, n + OFFSET, numbers)
 }
 
 // What a geometry adds that was opened at c, next being the next place.
@@ -103,7 +104,7 @@ fn opening(
 {
     match slot {
         Slot::Sheet => b,
-        Slot::Table => push(b, n + 10_000_000, numbers),
+        Slot::Table => push(b, n + OFFSET, numbers),
         Slot::Piece => b,
         Slot::Part => polygon(next, n, b, numbers),
         Slot::Member => member(c.header, kind == Kind::POLYGON, next, n, b, numbers),
@@ -138,7 +139,7 @@ fn ringing(c: Cursor, n: u32, b: Build, numbers: &mut [u32]) -> Build
         same.first = true;
         return same;
     }
-    let mut more = push(b, n + 10_000_000, numbers);
+    let mut more = push(b, n + OFFSET, numbers);
     more.first = true;
     more
 }
@@ -181,7 +182,7 @@ fn pointing(c: Cursor, x: u32, y: u32, b: Build, numbers: &mut [u32]) -> Build
     if c.rings != 0 {
         return more;
     }
-    push(more, c.members + 10_000_000, numbers)
+    push(more, c.members + OFFSET, numbers)
 }
 
 // The point is the ring's last and differs from its first.
@@ -203,10 +204,10 @@ fn judged(c: Cursor, next: Cursor, b: Build, x: f64, y: f64, numbers: &mut [u32]
     requires { ⌜ (c .members ≤ 64) × (b .fill + 3 < 2 ^ 64) ⌝ }
     ensures { λ r. ⌜ Leads (Point x y next) b r × ((t : Taken) (out : List ℕ) → Shows out t b (now (numbers .entry)) → Turned out (Reading.judged c next t (coordinateOf x) (coordinateOf y)) r (now (numbers .exit))) ⌝ }
 {
-    let Coordinate::Whole(h) = coordinate::judge(x) else {
+    let Coordinate::Whole(h) = sheet_coordinate::judge(x) else {
         return Turn::Over(5, c.member);
     };
-    let Coordinate::Whole(k) = coordinate::judge(y) else {
+    let Coordinate::Whole(k) = sheet_coordinate::judge(y) else {
         return Turn::Over(5, c.member);
     };
     if differs(c, h, k, b) {

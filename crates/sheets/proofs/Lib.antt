@@ -1,2 +1,3 @@
--- The law that the entries' proofs share.
+-- The laws that the entries' proofs share.
 pub mod Room
+pub mod Judged

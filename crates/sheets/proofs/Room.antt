@@ -3,8 +3,8 @@ use mathlib.Core.Path.{_≡_, sym, _∙_, ap, ap₂}
 use mathlib.Core.List.{List, _++_, flatMap}
 use Prim.Native.Nat.{ℕ, _*_, _≤_}
 use lib.ListN.{length, take, drop}
-use Rattle.little.specs.Bytes.{heldBytes}
-use Rattle.little.proofs.Bytes.{held-length, all-length}
+use Rattle.lent_little.specs.Bytes.{heldBytes}
+use Rattle.lent_little.proofs.Bytes.{held-length, all-length}
 use Rattle.sheet.specs.Going.{laid}
 use Rattle.sheet.proofs.Laid.{length-laid, laid-front}
 

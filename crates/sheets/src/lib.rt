@@ -1,36 +1,16 @@
 // The entries that both products call, on numbers and byte slices only. Each answers item × 256 + code.
-ghost use mathlib.Core.Path.{_≡_};
-ghost use lib.ListN.{length};
 ghost use Rattle.lent.specs.Answered.{Answered};
 ghost use Rattle.outcomes.specs.Entries.{sheetNumbers, sheetWrite, sheetOwnerSets, sheetOwners, sheetBoundary, sheetListing};
-use owner_sets::Owning;
+use judged_sets::Owning;
+use plane::OFFSET;
 use sheet::Ending;
-
-// Room for the numbers of the longest sheet, for the sides of the largest table, and for its owner sets.
-fn number_list() -> [u32; 16450]
-    ensures { λ r. ⌜ 16450 ≡ length r ⌝ }
-{
-    [0; 16450]
-}
-
-fn side_list() -> [usize; 3072]
-    ensures { λ r. ⌜ 3072 ≡ length r ⌝ }
-{
-    [0; 3072]
-}
-
-fn set_list() -> [u64; 1024]
-    ensures { λ r. ⌜ 1024 ≡ length r ⌝ }
-{
-    [0; 1024]
-}
 
 // The numbers of a sheet: its numbers form as little-endian i32; the item is the number of bytes.
 #[no_mangle]
 pub extern "C" fn sheet_numbers(sheet: &[u8], out: &mut [u8]) -> u64
     ensures { λ r. ⌜ Answered (sheetNumbers (now (sheet .entry))) (now (out .entry)) r (now (out .exit)) ⌝ }
 {
-    let mut numbers = number_list();
+    let mut numbers = [0u32; 16450];
     let ending = sheet::read(sheet, &mut numbers);
     match ending {
         Ending::Refused(code, item) => item as u64 * 256 + code as u64,
@@ -38,7 +18,7 @@ pub extern "C" fn sheet_numbers(sheet: &[u8], out: &mut [u8]) -> u64
             if out.len() / 4 < n {
                 return 40;
             }
-            number_bytes::write(&numbers, n, out);
+            lent_numbers::write(&numbers, n, out);
             4 * (n as u64) * 256
         }
     }
@@ -49,7 +29,7 @@ pub extern "C" fn sheet_numbers(sheet: &[u8], out: &mut [u8]) -> u64
 pub extern "C" fn sheet_write(numbers: &[u8], out: &mut [u8]) -> u64
     ensures { λ r. ⌜ Answered (sheetWrite (now (numbers .entry))) (now (out .entry)) r (now (out .exit)) ⌝ }
 {
-    writer::write(numbers, out)
+    sheet_writer::write(numbers, out)
 }
 
 // The owners of each triangle before repair, in table order, as a little-endian u64 whose bit k-1 stands for polygon k; the item is the
@@ -58,12 +38,12 @@ pub extern "C" fn sheet_write(numbers: &[u8], out: &mut [u8]) -> u64
 pub extern "C" fn sheet_owner_sets(sheet: &[u8], out: &mut [u8]) -> u64
     ensures { λ r. ⌜ Answered (sheetOwnerSets (now (sheet .entry))) (now (out .entry)) r (now (out .exit)) ⌝ }
 {
-    let mut numbers = number_list();
-    let mut opposite = side_list();
-    let mut sets = set_list();
+    let mut numbers = [0u32; 16450];
+    let mut opposite = [0usize; 3072];
+    let mut sets = [0u64; 1024];
     match judged::judged(sheet, &mut numbers, &mut opposite, &mut sets) {
         Owning::Refused(code, item) => item as u64 * 256 + code as u64,
-        Owning::Sets(n) => set_bytes::owner_sets(&sets[..n], out),
+        Owning::Sets(n) => lent_sets::owner_sets(&sets[..n], out),
     }
 }
 
@@ -72,12 +52,12 @@ pub extern "C" fn sheet_owner_sets(sheet: &[u8], out: &mut [u8]) -> u64
 pub extern "C" fn sheet_owners(sheet: &[u8], out: &mut [u8]) -> u64
     ensures { λ r. ⌜ Answered (sheetOwners (now (sheet .entry))) (now (out .entry)) r (now (out .exit)) ⌝ }
 {
-    let mut numbers = number_list();
-    let mut opposite = side_list();
-    let mut sets = set_list();
+    let mut numbers = [0u32; 16450];
+    let mut opposite = [0usize; 3072];
+    let mut sets = [0u64; 1024];
     match judged::judged(sheet, &mut numbers, &mut opposite, &mut sets) {
         Owning::Refused(code, item) => item as u64 * 256 + code as u64,
-        Owning::Sets(n) => owner_bytes::owners(&opposite[..3 * n], &sets[..n], out),
+        Owning::Sets(n) => repair_owner_bytes::owners(&opposite[..3 * n], &sets[..n], out),
     }
 }
 
@@ -86,34 +66,27 @@ pub extern "C" fn sheet_owners(sheet: &[u8], out: &mut [u8]) -> u64
 pub extern "C" fn sheet_boundary(sheet: &[u8], polygon: u32, out: &mut [u8]) -> u64
     ensures { λ r. ⌜ Answered (sheetBoundary polygon (now (sheet .entry))) (now (out .entry)) r (now (out .exit)) ⌝ }
 {
-    let mut numbers = number_list();
-    let mut opposite = side_list();
-    let mut sets = set_list();
+    let mut numbers = [0u32; 16450];
+    let mut opposite = [0usize; 3072];
+    let mut sets = [0u64; 1024];
     match judged::judged(sheet, &mut numbers, &mut opposite, &mut sets) {
         Owning::Refused(code, item) => item as u64 * 256 + code as u64,
         Owning::Sets(n) => {
             if polygon == 0 {
                 return 41;
             }
-            if numbers[1 + 6 * n] - 10_000_000 < polygon {
+            if numbers[1 + 6 * n] - OFFSET < polygon {
                 return 41;
             }
-            side_bytes::boundary(
+            repair_side_bytes::boundary(
                 &numbers,
                 &opposite[..3 * n],
                 &sets[..n],
-                polygon as usize,
+                polygon as u8,
                 out,
             )
         }
     }
-}
-
-// Room for the longest listing.
-fn text_list() -> [u8; 6600]
-    ensures { λ r. ⌜ 6600 ≡ length r ⌝ }
-{
-    [0; 6600]
 }
 
 // The printed listing of a sheet; the item is the number of bytes. A refused sheet has a listing too.
@@ -121,11 +94,11 @@ fn text_list() -> [u8; 6600]
 pub extern "C" fn sheet_listing(sheet: &[u8], out: &mut [u8]) -> u64
     ensures { λ r. ⌜ Answered (sheetListing (now (sheet .entry))) (now (out .entry)) r (now (out .exit)) ⌝ }
 {
-    let mut text = text_list();
+    let mut text = [0u8; 6600];
     let n = listing::print(sheet, &mut text);
     if out.len() < n {
         return 40;
     }
-    text::put_word(out, 0, &text[..n]);
+    lent_text::put_word(out, 0, &text[..n]);
     n as u64 * 256
 }

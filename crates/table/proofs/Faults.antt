@@ -19,7 +19,7 @@ use borrow.Author.Count.{below-none, below-more}
 use Rattle.whole.specs.Sums.{any}
 use Rattle.plane.specs.Points.{Edge, Triangle, sides, sameEdge, double}
 use Rattle.plane.specs.Boundaries.{sidesOf}
-use Rattle.plane.specs.Keys.{pointAt}
+use Rattle.plane.specs.Keys.{triangleAt}
 use Rattle.plane.proofs.Points.{sameEdge-eq, sameEdge-refl}
 use Rattle.table.specs.Table.{firstFault, flat, repeats}
 use Rattle.table.specs.Sides.{trianglesOf, tailsOf, sideAt, itemOf, Earlier, NoneBelow, FirstRepeat}
@@ -28,10 +28,6 @@ use Rattle.table.specs.Sides.{trianglesOf, tailsOf, sideAt, itemOf, Earl
 -- The list from place i on has the member at i first.
 pub drop-next : (l : List ℕ) (i j : ℕ) → j ≡ suc i → i < length l → drop i l ≡ getD l i 0 ∷ drop j l
 drop-next l i j e h = subst (λ m. drop i l ≡ getD l i 0 ∷ drop m l) (sym e) (drop-cons l i 0 h)
-
--- The triangle of number t, counted from 0.
-abbrev pub triangleAt : List ℕ → ℕ → Triangle
-triangleAt keys t = record { a = pointAt (getD keys (3 * t) 0); b = pointAt (getD keys (3 * t + 1) 0); c = pointAt (getD keys (3 * t + 2) 0) }
 
 pub triangles-from : (keys : List ℕ) (t u : ℕ) → u ≡ suc t → 3 * t + 2 < length keys → trianglesOf (drop (3 * t) keys) ≡ triangleAt keys t ∷ trianglesOf (drop (3 * u) keys)
 triangles-from keys t u e h = ap trianglesOf (

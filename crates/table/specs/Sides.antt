@@ -41,9 +41,15 @@ across s (suc o) = mark s (o / 3)
 abbrev pub share : List ℕ → List Bool → ℕ → ℤ
 share opposite s k = pos (mark s (k / 3)) -ℤ pos (across s (getD opposite k 0))
 
--- A net count is held as itself plus 2,147,483,648.
+-- A net count is held with 2,147,483,648 added: so the count of none, and the count of one.
+abbrev pub evenly : ℕ
+evenly = 2_147_483_648
+
+abbrev pub once : ℕ
+once = 2_147_483_649
+
 abbrev pub netOf : ℕ → ℤ
-netOf n = pos n -ℤ pos 2147483648
+netOf n = pos n -ℤ pos evenly
 
 -- The counts at all sides are those of the set's boundary.
 abbrev pub Shares : List ℕ → List ℕ → List Bool → Type 0

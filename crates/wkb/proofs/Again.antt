@@ -13,7 +13,7 @@ use Rattle.whole.proofs.Tests.{by-cond}
 use Rattle.wkb.specs.declared.Cursor.{Cursor}
 use Rattle.wkb.specs.declared.Step.{Step}
 use Rattle.wkb.specs.declared.Step.the-variants.{Geometry, Ring, Point, End, Refused}
-use Rattle.little.specs.Ordered.{remains, wordAt}
+use Rattle.lent_little.specs.Ordered.{remains, wordAt}
 use Rattle.wkb.specs.Steps.{slotOf, complete, kindFault, countFits, refusal, ringFits, geometryAt, ringAt, pointAt, endAt, stepAt}
 
 -- An end or a refusal hands back the place it was given.

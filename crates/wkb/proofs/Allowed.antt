@@ -6,7 +6,7 @@ use borrow.Author.Tests.{ltb-true, eqb-true}
 use lib.Dec.{ltb, eqb}
 use Rattle.whole.proofs.Tests.{by-equal}
 use Rattle.wkb.specs.declared.Cursor.{Cursor}
-use Rattle.kinds.specs.declared.Slot.the-variants.{Part, Member}
+use Rattle.wkb_kinds.specs.declared.Slot.the-variants.{Part, Member}
 use Rattle.wkb.specs.Steps.{crowded, deep, kindFault}
 
 -- A member's geometry.

@@ -7,8 +7,8 @@ use native.Mathlib.Omega.{arith}
 use lib.Dec.{leb, ltb, eqb}
 use Rattle.whole.proofs.Tests.{by-equal, by-cond}
 use Rattle.wkb.specs.declared.Cursor.{Cursor}
-use Rattle.kinds.specs.declared.Slot.{Slot}
-use Rattle.kinds.specs.declared.Slot.the-variants.{Sheet, Table, Piece, Part, Member}
+use Rattle.wkb_kinds.specs.declared.Slot.{Slot}
+use Rattle.wkb_kinds.specs.declared.Slot.the-variants.{Sheet, Table, Piece, Part, Member}
 use Rattle.wkb.specs.Places.{moved, geometriesToCome, headerToCome, secondToCome, thirdToCome, fourthToCome}
 use Rattle.wkb.specs.Steps.{complete, popped, withMembers, countFits, ringFits}
 

@@ -4,9 +4,9 @@ use mathlib.Core.Bool.{Bool, true, false}
 use mathlib.Core.List.{List, [], _∷_, _++_, flatMap}
 use Prim.Native.Nat.{ℕ, suc}
 use lib.ListN.{length}
-use Rattle.kinds.specs.declared.Kind.{Kind}
-use Rattle.little.specs.Ordered.{bytesOf}
-use Rattle.kinds.specs.Kinds.{typeOf}
+use Rattle.wkb_kinds.specs.declared.Kind.{Kind}
+use Rattle.lent_little.specs.Ordered.{bytesOf}
+use Rattle.wkb_kinds.specs.Kinds.{typeOf}
 
 infixr 5 _then_
 -- A point: the patterns of its two doubles.

@@ -5,14 +5,14 @@ use Prim.Native.Nat.{ℕ, _+_, _-_}
 use lib.Dec.{leb, ltb, eqb}
 use lib.ListN.{length, getD}
 use Rattle.wkb.specs.declared.Cursor.{Cursor}
-use Rattle.kinds.specs.declared.Slot.{Slot}
-use Rattle.kinds.specs.declared.Slot.the-variants.{Sheet, Table, Piece, Part, Member}
+use Rattle.wkb_kinds.specs.declared.Slot.{Slot}
+use Rattle.wkb_kinds.specs.declared.Slot.the-variants.{Sheet, Table, Piece, Part, Member}
 use Rattle.wkb.specs.declared.Step.{Step}
 use Rattle.wkb.specs.declared.Step.the-variants.{Geometry, Ring, Point, End, Refused}
-use Rattle.kinds.specs.Kinds.{slotAt}
+use Rattle.wkb_kinds.specs.Kinds.{slotAt}
 use Rattle.wkb.specs.Places.{moved, naming, headerToCome, secondToCome, thirdToCome, fourthToCome, partsToCome, ringsToCome, ordered, pointsToCome, polygonsBegun, pointsCounted}
-use Rattle.types.specs.Types.{crowdedAt, deepAt, faultAt}
-use Rattle.little.specs.Ordered.{remains, wordAt, doubleAt}
+use Rattle.wkb_kinds.specs.Types.{crowdedAt, deepAt, faultAt}
+use Rattle.lent_little.specs.Ordered.{remains, wordAt, doubleAt}
 
 -- The place before the first byte: the sheet's own header is to come.
 abbrev pub start : Cursor

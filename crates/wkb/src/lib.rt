@@ -3,12 +3,12 @@ ghost use mathlib.Core.Path.{_≡_};
 ghost use Prim.Native.Nat.{_+_, _-_, _*_, _^_, _≤_, _<_};
 ghost use lib.ListN.{length};
 ghost use lib.Ieee.{binary64, ofBits};
-ghost use Rattle.little.specs.Ordered.{numberOf, field, remains, wordAt, doubleAt};
-ghost use Rattle.little.specs.Places.{placeOf};
+ghost use Rattle.lent_little.specs.Ordered.{numberOf, field, remains, wordAt, doubleAt};
+ghost use Rattle.lent_little.specs.Places.{placeOf};
 ghost use mathlib.Core.Bool.{true};
 ghost use Rattle.wkb.specs.Steps.{complete, renewed, countFits, popped, withRings, withParts, withMembers, withSheet, fewerParts, opened, refusal, geometryAt, ringFits, withPoints, ringAt, afterPoint, pointAt, endAt, stepAt};
-use kinds::Kind;
-use kinds::Slot;
+use wkb_kinds::Kind;
+use wkb_kinds::Slot;
 
 // A reading place: where it stands, the member it names, and what is still to come there.
 pub struct Cursor {
@@ -308,7 +308,7 @@ impl Cursor {
         let little = order == 1;
         let kind = word(s, at + 1, little);
         let slot = Slot::standing(self.member, self.parts);
-        let fault = types::fault(slot, kind, self.polygons, self.fourth);
+        let fault = wkb_kinds::fault(slot, kind, self.polygons, self.fourth);
         if fault != 0 {
             return self.refused(fault);
         }

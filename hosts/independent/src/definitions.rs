@@ -1,8 +1,11 @@
 //! Document 01's definitions, word by word and slow, to compare the program's ways with on small sheets.
 
+use crate::cases::{self, Case};
 use crate::generate::generate;
-use crate::ownership::{judge, PointsInside};
-use crate::table::{double_area, frame, sides, Table};
+use crate::ownership::{judge, judge_sheet, member_double_area, Judged, PointsInside};
+use crate::plane::{double_area, sides};
+use crate::repair::{boundary_sides, repair};
+use crate::table::{frame, Table};
 use crate::{reading, Member, Point, Refusal, Side, Triangle};
 use std::collections::BTreeMap;
 
@@ -79,33 +82,119 @@ fn carrying_sets(triangles: &[Triangle], boundaries: &[Given], member: &Member) 
     (0..boundaries.len()).filter(|set| boundaries[*set] == wanted).collect()
 }
 
-fn compare_judgings(seed: u64, table: &Table, polygons: &[Member]) {
+fn compare_judgings(name: &str, table: &Table, polygons: &[Member]) {
     let triangles = &table.triangles;
     let boundaries: Vec<Given> = (0..1 << triangles.len()).map(|set| boundary_of_set(triangles, set)).collect();
     let inside = PointsInside::of(triangles);
     for member in polygons {
         let judged = judge(table, &inside, member);
-        let bits = |set: Vec<bool>| set.iter().rev().fold(0, |bits, owned| bits << 1 | usize::from(*owned));
-        let judged: Vec<usize> = judged.map(bits).into_iter().collect();
-        assert_eq!(judged, carrying_sets(triangles, &boundaries, member), "seed {seed}");
+        let judged: Vec<usize> = judged.map(|set| bits(set.into_iter())).into_iter().collect();
+        assert_eq!(judged, carrying_sets(triangles, &boundaries, member), "{name}");
     }
 }
 
+/// The places where it is true as bits.
+fn bits(set: impl DoubleEndedIterator<Item = bool>) -> usize {
+    set.rev().fold(0, |bits, owned| bits << 1 | usize::from(owned))
+}
+
+/// Whether the triangles have a side of which the other has the reverse.
+fn share_a_side(one: &Triangle, other: &Triangle) -> bool {
+    sides(one).iter().any(|(u, v)| sides(other).contains(&(*v, *u)))
+}
+
+/// Each triangle's label: at first its place, then for a gap the smallest label of the gaps that share a side with it, until
+/// nothing changes. A gap region has one label.
+fn labels(near: &[Vec<usize>], settled: &[u8]) -> Vec<usize> {
+    let mut labels: Vec<usize> = (0..near.len()).collect();
+    let mut before = Vec::new();
+    while labels != before {
+        before.clone_from(&labels);
+        for place in (0..near.len()).filter(|place| settled[*place] == 0) {
+            let gaps = near[place].iter().filter(|other| settled[**other] == 0);
+            labels[place] = gaps.map(|other| labels[*other]).fold(labels[place], usize::min);
+        }
+    }
+    labels
+}
+
+/// Repair by labels: a gap takes the largest number of those triangles that share a side with one of its label.
+fn repaired(triangles: &[Triangle], owners: &[u64]) -> Option<Vec<u8>> {
+    let smallest = |set: &u64| (1..=64).find(|k| set >> (k - 1) & 1 == 1).unwrap_or(0);
+    let settled: Vec<u8> = owners.iter().map(smallest).collect();
+    let places = || 0..triangles.len();
+    let near = |one: usize| places().filter(|other| share_a_side(&triangles[one], &triangles[*other])).collect();
+    let near: Vec<Vec<usize>> = places().map(near).collect();
+    let labels = labels(&near, &settled);
+    let mut numbers = settled.clone();
+    for gap in places().filter(|place| settled[*place] == 0) {
+        let region = places().filter(|place| labels[*place] == labels[gap]);
+        numbers[gap] = region.flat_map(|place| &near[place]).map(|other| settled[*other]).max()?;
+    }
+    settled.iter().any(|number| *number > 0).then_some(numbers)
+}
+
+fn compare_repairs(name: &str, judged: &Judged) {
+    let triangles = &judged.table.triangles;
+    let numbers = repair(&judged.table, &judged.owners);
+    assert_eq!(numbers.clone().ok(), repaired(triangles, &judged.owners), "{name}");
+    for number in 1..=numbers.iter().flatten().copied().max().unwrap_or(0) {
+        let numbers = numbers.as_ref().unwrap();
+        let mut listed = boundary_sides(&judged.table, numbers, number);
+        listed.sort_unstable();
+        let owned = bits(numbers.iter().map(|own| *own == number));
+        let given = boundary_of_set(triangles, owned).into_iter().filter(|(_, times)| *times == 1);
+        assert_eq!(listed, given.map(|(side, _)| side).collect::<Vec<Side>>(), "{name}");
+    }
+}
+
+/// The polygons' double areas, from their corners, add up to those of the triangles by their number of owners; and the
+/// triangles' to the frame's.
+fn compare_areas(name: &str, judged: &Judged) {
+    let triangles = &judged.table.triangles;
+    let areas = || triangles.iter().map(double_area);
+    let owned: i64 = areas().zip(&judged.owners).map(|(area, set)| area * i64::from(set.count_ones())).sum();
+    assert_eq!(judged.sheet.polygons.iter().map(member_double_area).sum::<i64>(), owned, "{name}");
+    let [low, _, high, _] = frame(&triangles.concat());
+    assert_eq!(areas().sum::<i64>(), 2 * (high.x - low.x) * (high.y - low.y), "{name}");
+}
+
+/// Generated inputs, and the cases that are sheets, by name.
+fn inputs() -> impl Iterator<Item = (String, Vec<u8>)> {
+    let generated = (0..8_000).map(|seed| (format!("seed {seed}"), generate(seed)));
+    let cases = cases::all().into_iter().filter(Case::is_sheet).map(|case| (case.name, case.input));
+    generated.chain(cases)
+}
+
 #[test]
-fn definitions_agree_on_small_sheets() {
+fn rules_and_judging_agree_on_small_sheets() {
     let (mut tables, mut sheets) = (0, 0);
-    for seed in 0..8_000 {
-        let Ok(sheet) = reading::read(&generate(seed)) else { continue };
+    for (name, input) in inputs() {
+        let Ok(sheet) = reading::read(&input) else { continue };
         if sheet.triangles.len() > 40 {
             continue;
         }
         let table = Table::check(&sheet.triangles);
-        assert_eq!(table.as_ref().err().copied(), table_refusal(&sheet.triangles), "seed {seed}");
+        assert_eq!(table.as_ref().err().copied(), table_refusal(&sheet.triangles), "{name}");
         tables += 1;
-        if let (Ok(table), true) = (table, sheet.triangles.len() <= 7) {
-            compare_judgings(seed, &table, &sheet.polygons);
+        if let (Ok(table), true) = (table, sheet.triangles.len() <= 9) {
+            compare_judgings(&name, &table, &sheet.polygons);
             sheets += 1;
         }
     }
     assert!(tables > 3_000 && sheets > 1_000, "{tables} tables, {sheets} sheets");
+}
+
+#[test]
+fn repair_and_areas_agree_on_small_sheets() {
+    let mut sheets = 0;
+    for (name, input) in inputs() {
+        let Ok(judged) = judge_sheet(&input) else { continue };
+        compare_areas(&name, &judged);
+        if judged.owners.len() <= 40 {
+            compare_repairs(&name, &judged);
+            sheets += 1;
+        }
+    }
+    assert!(sheets > 3_000, "{sheets} sheets");
 }

@@ -8,11 +8,12 @@ mod limit;
 mod mesh;
 mod numbers;
 mod polygons;
+mod sheets;
 mod spoil;
 
-use crate::{Member, Sheet, Triangle};
 use dice::Dice;
 use draft::Draft;
+use sheets::{not_carried_sheet, sound_sheet};
 
 /// The input for this seed: bytes that are, or nearly are, a sheet in WKB.
 pub fn generate(seed: u64) -> Vec<u8> {
@@ -55,26 +56,10 @@ pub fn hostile(seed: u64) -> Vec<u8> {
     large::hostile(&mut Dice::new(seed))
 }
 
-/// A sheet whose table keeps the rules and whose members are all carried.
-fn sound_sheet(dice: &mut Dice) -> Sheet {
-    let triangles = mesh::rectangle(dice);
-    let polygons = polygons::members(dice, &triangles);
-    Sheet { triangles, polygons }
-}
-
 /// A sheet that no entry refuses before 30.
 fn sound(dice: &mut Dice) -> Vec<u8> {
     let sheet = sound_sheet(dice);
     Draft::of(dice, sheet).bytes(dice)
-}
-
-/// A sheet with members changed so that, mostly, one isn't carried.
-fn not_carried_sheet(dice: &mut Dice) -> Sheet {
-    let mut sheet = sound_sheet(dice);
-    for _ in 0..1 + dice.below(2) {
-        spoil::member(dice, &mut sheet);
-    }
-    sheet
 }
 
 /// A sheet of which, mostly, a member isn't carried.
@@ -116,22 +101,6 @@ fn at_a_limit(dice: &mut Dice) -> Vec<u8> {
     encoded.bytes
 }
 
-/// The points of a member, closing points included.
-fn point_count(member: &Member) -> usize {
-    member.iter().flatten().map(Vec::len).sum()
-}
-
-/// The points of all members.
-fn sheet_points(polygons: &[Member]) -> usize {
-    polygons.iter().map(point_count).sum()
-}
-
-/// The place of the triangle with side vu, if there is one.
-fn across(triangles: &[Triangle], (u, v): crate::Side) -> Option<usize> {
-    let has = |triangle: &Triangle| crate::table::sides(triangle).contains(&(v, u));
-    triangles.iter().position(has)
-}
-
 #[cfg(test)]
 mod tests {
     use super::*;
@@ -151,7 +120,7 @@ mod tests {
         let sizes = |input: &[u8]| {
             let sheet = crate::reading::read(input).unwrap();
             assert_eq!(answer(Entry::OwnerSets, input, usize::MAX).0 % 256, 0);
-            (sheet.triangles.len(), sheet.polygons.len(), sheet_points(&sheet.polygons))
+            (sheet.triangles.len(), sheet.polygons.len(), polygons::sheet_points(&sheet.polygons))
         };
         for seed in 0..20 {
             assert_eq!(sizes(&largest(seed)), (1_024, 64, 4_096));

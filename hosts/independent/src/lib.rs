@@ -7,19 +7,21 @@
 #![warn(missing_docs)]
 
 pub mod bridge;
+pub mod cases;
 pub mod entries;
 pub mod generate;
 pub mod listing;
+pub mod made;
 pub mod ownership;
+pub mod plane;
 pub mod reading;
 pub mod repair;
+pub mod stored;
 pub mod table;
 pub mod writing;
 
 #[cfg(test)]
 mod definitions;
-#[cfg(test)]
-mod examples;
 
 /// A point in millimetres. Points are ordered by x, then by y.
 #[derive(Clone, Copy, PartialEq, Eq, PartialOrd, Ord, Debug)]

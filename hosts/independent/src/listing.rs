@@ -1,8 +1,8 @@
 //! The printed listing.
 
 use crate::ownership::{judge_sheet, member_double_area, Judged};
+use crate::plane::double_area;
 use crate::repair::repair;
-use crate::table::double_area;
 use crate::Refusal;
 
 /// The most bytes that `sheetcheck` reads; of a longer input, the first so many are read as the whole.

@@ -1,4 +1,4 @@
-//! Cutting edges at table corners, boundaries, and which set of triangles carries a member.
+//! Which set of triangles carries a member, and the owners of each triangle of a sheet.
 //!
 //! The set is found by winding numbers. Count, for an edge and a point inside a triangle, whether the edge passes the
 //! ray from the point to the right: upward 1, downward -1, else 0 (its lower end belongs to it, its upper end not).
@@ -8,7 +8,8 @@
 //! inside any other: only that one set comes into question. Whether it has the member's boundary is then compared at
 //! every ordered pair.
 
-use crate::table::{double_area, sides, Table};
+use crate::plane::Boundary;
+use crate::table::Table;
 use crate::{reading, Member, Point, Refusal, Sheet, Side, Triangle};
 
 /// A sheet that was read, whose table keeps its rules and whose members are all carried.
@@ -58,56 +59,6 @@ pub fn edges(member: &Member) -> impl Iterator<Item = Side> + '_ {
 /// A member's double area: the sum over its ring edges of px·qy - qx·py.
 pub fn member_double_area(member: &Member) -> i64 {
     edges(member).map(|(p, q)| p.x * q.y - q.x * p.y).sum()
-}
-
-/// Calls `piece` with the pieces of the edge (p, q), cut at every table corner strictly between p and q on the
-/// straight line, from p to q. An edge of no length gives nothing. On a straight line the points' own order is the
-/// order along it, so the corners in question stand together in the ordered list.
-pub fn cut(corners: &[Point], (p, q): Side, mut piece: impl FnMut(Side)) {
-    let after = corners.partition_point(|&corner| corner <= p.min(q));
-    let until = corners.partition_point(|&corner| corner < p.max(q)).max(after);
-    let on_line = |corner: &&Point| double_area(&[p, q, **corner]) == 0;
-    let between = corners[after..until].iter().filter(on_line);
-    let mut from = p;
-    let mut step = |to: &Point| {
-        piece((from, *to));
-        from = *to;
-    };
-    if p < q {
-        between.for_each(&mut step);
-    } else {
-        between.rev().for_each(&mut step);
-    }
-    if p != q {
-        step(&q);
-    }
-}
-
-/// A boundary: it gives each ordered pair (u, v) the number of times uv is listed, less those of vu.
-#[derive(Default)]
-pub struct Boundary {
-    listed: Vec<Side>,
-}
-
-impl Boundary {
-    /// Adds the pieces of an edge.
-    pub fn add_edge(&mut self, corners: &[Point], edge: Side) {
-        cut(corners, edge, |piece| self.listed.push(piece));
-    }
-
-    /// Takes away the sides of a triangle.
-    pub fn subtract_triangle(&mut self, triangle: &Triangle) {
-        self.listed.extend(sides(triangle).map(|(u, v)| (v, u)));
-    }
-
-    /// Whether every ordered pair is given 0.
-    pub fn is_zero(self) -> bool {
-        let signed = |(u, v): Side| if u < v { (u, v, 1) } else { (v, u, -1) };
-        let mut signed: Vec<(Point, Point, i64)> = self.listed.into_iter().map(signed).collect();
-        signed.sort_unstable();
-        let mut pairs = signed.chunk_by(|one, next| (one.0, one.1) == (next.0, next.1));
-        pairs.all(|pair| pair.iter().map(|(_, _, sign)| sign).sum::<i64>() == 0)
-    }
 }
 
 /// Whether this set of triangles has the member's boundary at every ordered pair.

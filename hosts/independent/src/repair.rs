@@ -1,6 +1,7 @@
 //! Repair: each triangle's one number, and the boundary sides of a member after it.
 
-use crate::table::{sides, Table};
+use crate::plane::sides;
+use crate::table::Table;
 use crate::{Refusal, Side};
 
 /// Each triangle's number after repair, in table order; 30 exactly if no triangle has an owner.

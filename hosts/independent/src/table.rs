@@ -1,6 +1,6 @@
 //! The triangle table and its rules A, B and C.
 
-use crate::ownership::Boundary;
+use crate::plane::{double_area, sides, Boundary};
 use crate::{Point, Refusal, Side, Triangle};
 
 /// A table that keeps rules A, B and C.
@@ -29,16 +29,6 @@ impl Table {
         let found = self.sides.binary_search_by_key(&(v, u), |&(side, _)| side);
         found.ok().map(|place| self.sides[place].1)
     }
-}
-
-/// The double area of (a, b, c).
-pub fn double_area(&[a, b, c]: &Triangle) -> i64 {
-    (b.x - a.x) * (c.y - a.y) - (c.x - a.x) * (b.y - a.y)
-}
-
-/// The sides ab, bc, ca.
-pub fn sides(&[a, b, c]: &Triangle) -> [Side; 3] {
-    [(a, b), (b, c), (c, a)]
 }
 
 /// Every side of every triangle with the triangle's place, in order of sides and then of places.

@@ -1,85 +1,90 @@
 -- `judged::judged` meets its contract: what was read is a sheet within the limits, and goes on to its owner sets. Assumes nothing.
-use mathlib.Core.Path.{sym, _∙_, subst}
-use Prim.Native.Nat.{_<_}
+use mathlib.Core.Path.{_≡_, sym, _∙_, subst}
+use mathlib.Core.List.{List}
+use Prim.Native.Nat.{ℕ, _≤_, _<_}
 use native.Mathlib.Omega.{arith}
 use borrow.Author.Needs.{needs}
 use denote.Ref.{now}
+use lib.ListN.{length, take}
 use lib.Seq.{length-take-le}
 use Rattle.whole.proofs.Sums.{all-from}
+use Rattle.sheet_form.specs.Numbers.{Sheet}
 use Rattle.sheet.specs.Reading.{readingOf}
+use Rattle.sheet.specs.Read.{sheet, readSheet}
 use Rattle.sheet.proofs.Fit.{numbers-fit}
-use Rattle.written.specs.Held.{SheetHeld}
-use Rattle.written.proofs.Held.{read-held}
+use Rattle.sheet.specs.Held.{SheetHeld}
+use Rattle.sheet_written.proofs.Held.{read-held}
 use Rattle.judged.proofs.Read.{sheet-is, unread-is, room, front, owning-is}
 use Rattle.judged.proofs.judged.Statement.{statement}
 use Rattle.judged.proofs.judged.Tie as tie
 
-read-requires : tie.Need-read-requires
-read-requires c κs = search needs
+-- ---- places: the entry of the function, and the call of `read`
+abbrev start : tie.After-read → tie.Start
+start c = c .before .before .before .before .before .before
 
-enum-known-code : tie.Need-enum-known-code
-enum-known-code c = search needs
+abbrev read-call : tie.After-n → tie.After-read
+read-call c = c .before .before .before .before
 
-enum-known-n : tie.Need-enum-known-n
-enum-known-n c = search needs
+-- The bytes, and the list that `read` leaves.
+abbrev bytes : tie.After-read → List ℕ
+bytes c = now (start c .args .sheet)
 
-slice-reshare-prefix-owner-sets : tie.Need-slice-reshare-prefix-owner-sets
-slice-reshare-prefix-owner-sets c =
-    let s = now (c .before .before .before .before .before .before .before .before .before .before .before .args .sheet) in
-    let e = sheet-is (readingOf s) _ (sym (c .before .before .before .before .before .read .ensures .0) ∙ c .before .n .given .1) in
-    omega (arith, room (c .before .before .before .before .before .read .last .1 .0) (readingOf s .numbers) (now (c .before .before .before .before .before .before .before .before .before .before .before .args .numbers)) (c .before .before .before .before .before .read .ensures .1), e .0, numbers-fit s (e .1), c .before .before .before .before .before .before .before .before .before .before .before .pre .0)
+abbrev numbers : tie.After-read → List ℕ
+numbers c = c .read .last .1 .0
 
-slice-aggregate-owner-sets : tie.Need-slice-aggregate-owner-sets
-slice-aggregate-owner-sets c =
-    let s = now (c .before .before .before .before .before .before .before .before .before .before .before .before .args .sheet) in
-    let e = sheet-is (readingOf s) _ (sym (c .before .before .before .before .before .before .read .ensures .0) ∙ c .before .before .n .given .1) in
-    sym (length-take-le (c .before .before .n .given .0 .0) (c .before .before .before .before .before .before .read .last .1 .0) (omega (arith, room (c .before .before .before .before .before .before .read .last .1 .0) (readingOf s .numbers) (now (c .before .before .before .before .before .before .before .before .before .before .before .before .args .numbers)) (c .before .before .before .before .before .before .read .ensures .1), e .0, numbers-fit s (e .1), c .before .before .before .before .before .before .before .before .before .before .before .before .pre .0)))
+-- A sheet was read: its numbers, and no code; the lent list has room for them.
+read-is : (c : tie.After-n) → let r = readingOf (bytes (read-call c)) in (c .n .given .0 .0 ≡ length (r .numbers)) × (r .code ≡ 0)
+read-is c = sheet-is (readingOf (bytes (read-call c))) _ (sym (read-call c .read .ensures .0) ∙ c .n .given .1)
+
+fits : (c : tie.After-n) → c .n .given .0 .0 ≤ length (numbers (read-call c))
+fits c =
+    let d = read-call c in
+    let e = read-is c in
+    omega (arith, room (numbers d) (readingOf (bytes d) .numbers) (now (start d .args .numbers)) (d .read .ensures .1), e .0, numbers-fit (bytes d) (e .1), start d .pre .0)
+
+-- The sheet that stands at the front of the lent list.
+held : (c : tie.After-n) → let d = read-call c in (n : Sheet) × SheetHeld n (take (c .n .given .0 .0) (numbers d)) × (readSheet (bytes d) ≡ sheet n)
+held c =
+    let d = read-call c in
+    let s = bytes d in
+    let e = read-is c in
+    let h = read-held s (all-from (λ x. x < 256) 0 s (λ i l. d .before .before .before .before .before .shared-slice-known .given i .fits)) (e .1) in
+    let f = front (numbers d) (readingOf s .numbers) (now (start d .args .numbers)) (c .n .given .0 .0) (d .read .ensures .1) (omega (arith, numbers-fit s (e .1), start d .pre .0)) (e .0) in
+    (h .0, subst (SheetHeld (h .0)) (sym f) (h .1), h .2)
 
 owner-sets-requires : tie.Need-owner-sets-requires
 owner-sets-requires c κs =
-    let s = now (c .before .before .before .before .before .before .before .before .before .before .before .before .before .before .args .sheet) in
-    let e = sheet-is (readingOf s) _ (sym (c .before .before .before .before .before .before .before .before .read .ensures .0) ∙ c .before .before .before .before .n .given .1) in
-    let d = read-held s (all-from (λ x. x < 256) 0 s (λ i h. c .before .before .before .before .before .before .before .before .before .before .before .before .before .shared-slice-known .given i .fits)) (e .1) in
-    let f = front (c .before .before .before .before .before .before .before .before .read .last .1 .0) (readingOf s .numbers) (now (c .before .before .before .before .before .before .before .before .before .before .before .before .before .before .args .numbers)) (c .before .before .before .before .n .given .0 .0) (c .before .before .before .before .before .before .before .before .read .ensures .1) (omega (arith, numbers-fit s (e .1), c .before .before .before .before .before .before .before .before .before .before .before .before .before .before .pre .0)) (e .0) in
-    ((d .0, subst (SheetHeld (d .0)) (sym f) (d .1)), c .before .before .before .before .before .before .before .before .before .before .before .before .before .before .pre .1, c .before .before .before .before .before .before .before .before .before .before .before .before .before .before .pre .2)
-
-same-length : tie.Need-same-length
-same-length c = search needs
+    let d = c .before .before .before .before in
+    let p = start (read-call d) .pre in
+    ((held d .0, held d .1), p .1, p .2)
 
 returns : tie.Need-returns
-returns c = unread-is (now (c .before .before .before .before .before .before .before .before .before .before .before .args .sheet)) (c .before .code .given .0 .0) (c .before .code .given .0 .1 .0) (sym (c .before .before .before .before .before .read .ensures .0) ∙ c .before .code .given .1)
-
-same-length-2 : tie.Need-same-length-2
-same-length-2 c = search needs
-
-same-length-3 : tie.Need-same-length-3
-same-length-3 c = search needs
-
-same-length-4 : tie.Need-same-length-4
-same-length-4 c = search needs
+returns c =
+    let r = c .before .code .given in
+    let d = c .before .before .before .before .before in
+    unread-is (bytes d) (r .0 .0) (r .0 .1 .0) (sym (d .read .ensures .0) ∙ r .1)
 
 returns-2 : tie.Need-returns-2
 returns-2 c =
-    let s = now (c .before .before .before .before .before .before .before .before .before .before .before .before .before .before .before .before .before .before .before .args .sheet) in
-    let e = sheet-is (readingOf s) _ (sym (c .before .before .before .before .before .before .before .before .before .before .before .before .before .read .ensures .0) ∙ c .before .before .before .before .before .before .before .before .before .n .given .1) in
-    let d = read-held s (all-from (λ x. x < 256) 0 s (λ i h. c .before .before .before .before .before .before .before .before .before .before .before .before .before .before .before .before .before .before .shared-slice-known .given i .fits)) (e .1) in
-    let f = front (c .before .before .before .before .before .before .before .before .before .before .before .before .before .read .last .1 .0) (readingOf s .numbers) (now (c .before .before .before .before .before .before .before .before .before .before .before .before .before .before .before .before .before .before .before .args .numbers)) (c .before .before .before .before .before .before .before .before .before .n .given .0 .0) (c .before .before .before .before .before .before .before .before .before .before .before .before .before .read .ensures .1) (omega (arith, numbers-fit s (e .1), c .before .before .before .before .before .before .before .before .before .before .before .before .before .before .before .before .before .before .before .pre .0)) (e .0) in
-    let h = subst (SheetHeld (d .0)) (sym f) (d .1) in
-    owning-is s (d .0) (d .2) (c .before .before .before .before .before .before .before .before .before .n .given .0 .0) (c .before .before .before .before .before .before .before .before .before .before .before .before .before .read .last .1 .0) h (c .before .before .before .before .owner-sets .result) (c .before .before .before .before .owner-sets .last .1 .0) (c .before .before .before .before .owner-sets .last .1 .1 .0) (c .before .before .before .before .owner-sets .ensures (d .0) h)
+    let o = c .before .before .before .before in
+    let d = o .before .before .before .before .before in
+    let w = o .owner-sets in
+    let h = held d in
+    owning-is (bytes (read-call d)) (h .0) (h .2) (d .n .given .0 .0) (numbers (read-call d)) (h .1) (w .result) (w .last .1 .0) (w .last .1 .1 .0) (w .ensures (h .0) (h .1))
 
 pub judged-spec : {M : Type 1} → statement M
 judged-spec =
     tie.close
     (tie.spec
-    read-requires
-    enum-known-code
-    enum-known-n
-    slice-reshare-prefix-owner-sets
-    slice-aggregate-owner-sets
+    (λ c κs. search needs)
+    (λ c. search needs)
+    (λ c. search needs)
+    (λ c. fits (c .before))
+    (λ c. sym (length-take-le _ _ (fits (c .before .before))))
     owner-sets-requires
-    same-length
+    (λ c. search needs)
     returns
-    same-length-2
-    same-length-3
-    same-length-4
+    (λ c. search needs)
+    (λ c. search needs)
+    (λ c. search needs)
     returns-2)

@@ -1,100 +1,87 @@
 -- `listing::lay_areas` meets its contract: the table's corners are laid down, and then their double areas. Assumes nothing.
 use mathlib.Core.Path.{_≡_, sym, _∙_, ap, subst}
-use mathlib.Core.List.{[], map}
-use Prim.Native.Nat.{_*_}
+use mathlib.Core.List.{List, [], map, _++_}
+use Prim.Native.Nat.{ℕ, _*_, _≤_}
 use native.Mathlib.Omega.{arith}
 use borrow.Author.Needs.{needs}
 use denote.Ref.{now}
-use lib.ListN.{length, drop, length-append}
+use lib.ListN.{length, take, length-append}
 use lib.Seq.{length-take-le, take-at}
 use Rattle.whole.specs.Sums.{All}
-use Rattle.plane.specs.Points.{double}
+use Rattle.plane.specs.Points.{double, Triangle}
 use Rattle.plane.specs.Keys.{Key}
 use Rattle.table.specs.Table.{RuleA}
 use Rattle.table.specs.Sides.{trianglesOf}
-use Rattle.judged.proofs.Repaired.{judged-rules}
+use Rattle.judged.specs.Held.{Stands}
+use Rattle.judged.proofs.Repaired.{judged-owners, judged-rules}
+use Rattle.judged.proofs.Standing.{few}
 use Rattle.listing.proofs.Front.{table-fits, table-held, table-front}
 use Rattle.listing.proofs.lay_areas.Statement.{statement}
 use Rattle.listing.proofs.lay_areas.Tie as tie
 
-corner-list-requires : tie.Need-corner-list-requires
-corner-list-requires c κs = search needs
+-- ---- places: the entry of the function, how many triangles there are, and the corners laid down
+abbrev start : tie.After-corners → tie.Start
+start c = c .before .before .before .before .before
 
-mul-corners : tie.Need-mul-corners
-mul-corners c = let p = c .before .before .before .pre in omega (arith, p .4, p .3 .held .few)
+abbrev many : tie.Start → ℕ
+many c = length (now (c .args .areas))
 
-add-corners : tie.Need-add-corners
-add-corners c = let p = c .before .before .before .pre in omega (arith, p .4, p .3 .held .few)
+abbrev keys : tie.After-corners → List ℕ
+keys c = c .corners .last .1 .0
 
-slice-aggregate-corners : tie.Need-slice-aggregate-corners
-slice-aggregate-corners c = let p = c .before .before .before .before .pre in sym (length-take-le _ _ (table-fits (p .3) (p .4)))
+-- There is room for the corners of the largest table.
+fits : (c : tie.Start) → 3 * many c ≤ 3072
+fits c = omega (arith, few (c .pre .3))
 
-mul-keys : tie.Need-mul-keys
-mul-keys c = let p = c .before .before .before .before .pre in omega (arith, p .4, p .3 .held .few)
+-- As many corners are laid down as the table has, and they are the table's.
+count : (c : tie.After-corners) → length (keys c) ≡ 3 * many (start c)
+count c = c .corners .ensures .2 ∙ length-take-le _ _ (fits (start c))
 
-array-borrow-prefix-keys : tie.Need-array-borrow-prefix-keys
-array-borrow-prefix-keys c = let p = c .before .before .before .before .pre in omega (arith, p .4, p .3 .held .few)
+laid : (c : tie.After-corners) {s opposite l : List ℕ} (w : Stands s (many (start c)) (now (start c .args .numbers)) opposite l) → trianglesOf (keys c) ≡ w .n .table
+laid c w = c .corners .ensures .0 (w .n .table) [] (table-front w) (length-take-le _ _ (fits (start c)) ∙ ap (λ t. 3 * t) (sym (w .many)))
 
-slice-aggregate-corners-2 : tie.Need-slice-aggregate-corners-2
-slice-aggregate-corners-2 c = let p = c .before .before .before .before .before .pre in sym (length-take-le _ _ (omega (arith, p .4, p .3 .held .few, c .before .before .corner-list .ensures)))
+-- They stand at the front of the work list.
+room : (c : tie.After-corners) (rest : List ℕ) → 3 * many (start c) ≤ length (keys c ++ rest)
+room c rest = omega (arith, length-append (keys c) rest, count c)
+
+front : (c : tie.After-corners) (rest : List ℕ) → take (3 * many (start c)) (keys c ++ rest) ≡ keys c
+front c rest = take-at (keys c) rest _ (count c)
 
 corners-requires : tie.Need-corners-requires
 corners-requires c κs =
-    let p = c .before .before .before .before .before .pre in
-    (table-held (p .3) (p .4), (p .0 .table, [], table-front (p .3) (p .4), length-take-le _ _ (omega (arith, p .4, p .3 .held .few, c .before .before .corner-list .ensures)) ∙ ap (λ t. 3 * t) (sym (p .4))))
-
-mul-keys-2 : tie.Need-mul-keys-2
-mul-keys-2 c = let p = c .before .before .before .before .before .before .before .pre in omega (arith, p .4, p .3 .held .few)
-
-array-share-prefix-keys : tie.Need-array-share-prefix-keys
-array-share-prefix-keys c =
-    let p = c .before .before .before .before .before .before .before .pre in
-    omega (arith, length-append (c .before .corners .last .1 .0) (drop (3 * length (now (c .before .before .before .before .before .before .before .args .areas))) (c .before .before .before .before .corner-list .result)), c .before .corners .ensures .2, length-take-le (3 * length (now (c .before .before .before .before .before .before .before .args .areas))) (c .before .before .before .before .corner-list .result) (omega (arith, p .4, p .3 .held .few, c .before .before .before .before .corner-list .ensures)))
-
-slice-aggregate-areas : tie.Need-slice-aggregate-areas
-slice-aggregate-areas c =
-    let p = c .before .before .before .before .before .before .before .before .pre in
-    sym (length-take-le _ _ (omega (arith, length-append (c .before .before .corners .last .1 .0) (drop (3 * length (now (c .before .before .before .before .before .before .before .before .args .areas))) (c .before .before .before .before .before .corner-list .result)), c .before .before .corners .ensures .2, length-take-le (3 * length (now (c .before .before .before .before .before .before .before .before .args .areas))) (c .before .before .before .before .before .corner-list .result) (omega (arith, p .4, p .3 .held .few, c .before .before .before .before .before .corner-list .ensures)))))
+    let s = c .before .before .before .before in
+    let w = s .pre .3 in
+    (table-held w, (w .n .table, [], table-front w, length-take-le _ _ (fits s) ∙ ap (λ t. 3 * t) (sym (w .many))))
 
 areas-requires : tie.Need-areas-requires
 areas-requires c κs =
-    let p = c .before .before .before .before .before .before .before .before .before .pre in
-    let k = c .before .before .before .corners .last .1 .0 in
-    let m : length k ≡ 3 * length (now (c .before .before .before .before .before .before .before .before .before .args .areas)) = c .before .before .before .corners .ensures .2 ∙ length-take-le (3 * length (now (c .before .before .before .before .before .before .before .before .before .args .areas))) (c .before .before .before .before .before .before .corner-list .result) (omega (arith, p .4, p .3 .held .few, c .before .before .before .before .before .before .corner-list .ensures)) in
-    let f = take-at k (drop (3 * length (now (c .before .before .before .before .before .before .before .before .before .args .areas))) (c .before .before .before .before .before .before .corner-list .result)) (3 * length (now (c .before .before .before .before .before .before .before .before .before .args .areas))) m in
-    let t = c .before .before .before .corners .ensures .0 (p .0 .table) [] (table-front (p .3) (p .4)) (length-take-le _ _ (omega (arith, p .4, p .3 .held .few, c .before .before .before .before .before .before .corner-list .ensures)) ∙ ap (λ t. 3 * t) (sym (p .4))) in (
-      subst (All Key) (sym f) (c .before .before .before .corners .ensures .1),
-      subst (λ k. RuleA (trianglesOf k)) (sym f) (subst RuleA (sym t) (judged-rules (p .3 .held) (p .3 .owned) .0)),
-      ap length f ∙ m,
+    let k = c .before .before .before in
+    let w = start k .pre .3 in (
+      subst (All Key) (sym (front k _)) (k .corners .ensures .1),
+      subst (λ l. RuleA (trianglesOf l)) (sym (front k _)) (subst RuleA (sym (laid k w)) (judged-rules (w .held) (judged-owners _ (w .comes) .1) .0)),
+      ap length (front k _) ∙ count k,
     )
 
-same-length : tie.Need-same-length
-same-length c = search needs
-
 returns : tie.Need-returns
-returns c = λ n opposite l j e.
-    let p = c .before .before .before .before .before .before .before .before .before .before .before .before .pre in
-    let k = c .before .before .before .before .before .before .corners .last .1 .0 in
-    let m : length k ≡ 3 * length (now (c .before .before .before .before .before .before .before .before .before .before .before .before .args .areas)) = c .before .before .before .before .before .before .corners .ensures .2 ∙ length-take-le (3 * length (now (c .before .before .before .before .before .before .before .before .before .before .before .before .args .areas))) (c .before .before .before .before .before .before .before .before .before .corner-list .result) (omega (arith, p .4, p .3 .held .few, c .before .before .before .before .before .before .before .before .before .corner-list .ensures)) in
-    let f = take-at k (drop (3 * length (now (c .before .before .before .before .before .before .before .before .before .before .before .before .args .areas))) (c .before .before .before .before .before .before .before .before .before .corner-list .result)) (3 * length (now (c .before .before .before .before .before .before .before .before .before .before .before .before .args .areas))) m in
-    let t = c .before .before .before .before .before .before .corners .ensures .0 (n .table) [] (table-front j e) (length-take-le _ _ (omega (arith, p .4, p .3 .held .few, c .before .before .before .before .before .before .before .before .before .corner-list .ensures)) ∙ ap (λ t. 3 * t) (sym e)) in
-    record { are = c .before .before .areas .ensures .0 ∙ ap (λ k. map double (trianglesOf k)) f ∙ ap (map double) t; small = c .before .before .areas .ensures .1 }
+returns c = λ s opposite l w.
+    let k = c .before .before .before .before .before .before in
+    let a = c .before .before .areas .ensures in
+    record { are = a .0 ∙ ap (λ l. map double (trianglesOf l)) (front k _) ∙ ap (map double) (laid k w); small = a .1 }
 
 pub lay-areas-spec : {M : Type 1} → statement M
 lay-areas-spec =
     tie.close
     (tie.spec
-    corner-list-requires
-    mul-corners
-    add-corners
-    slice-aggregate-corners
-    mul-keys
-    array-borrow-prefix-keys
-    slice-aggregate-corners-2
+    (λ c. omega (arith, fits (c .before .before)))
+    (λ c. omega (arith, fits (c .before .before)))
+    (λ c. sym (length-take-le _ _ (table-fits (c .before .before .before .pre .3))))
+    (λ c. omega (arith, fits (c .before .before .before)))
+    (λ c. fits (c .before .before .before))
+    (λ c. sym (length-take-le _ _ (fits (c .before .before .before .before))))
     corners-requires
-    mul-keys-2
-    array-share-prefix-keys
-    slice-aggregate-areas
+    (λ c. omega (arith, fits (start (c .before))))
+    (λ c. room (c .before) _)
+    (λ c. sym (length-take-le _ _ (room (c .before .before) _)))
     areas-requires
-    same-length
+    (λ c. search needs)
     returns)

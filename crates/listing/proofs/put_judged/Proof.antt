@@ -1,119 +1,126 @@
 -- `listing::put_judged` meets its contract: the lines by the figures of the sheet are its listing. Assumes nothing.
-use mathlib.Core.Path.{_≡_, sym, _∙_, ap, ap₂, subst}
-use mathlib.Core.List.{_++_}
-use Prim.Native.Nat.{_+_, _-_, _*_}
+use mathlib.Core.Path.{_≡_, sym, _∙_, subst}
+use mathlib.Core.List.{List, _++_}
+use Prim.Native.Nat.{ℕ, _+_, _-_, _*_, _≤_}
 use native.Mathlib.Omega.{arith}
 use borrow.Author.Needs.{needs}
 use denote.Ref.{now}
-use lib.ListN.{length, getD, take, drop, length-append}
+use lib.ListN.{length, getD, take, length-append}
 use lib.Seq.{length-take-le, take-at}
-use Rattle.text.specs.Putting.{Put}
-use Rattle.printing.specs.Printing.{Figures, linesBy}
-use Rattle.listing.proofs.Sheet.{sets-many, few, few-polygons, pairs, polygons-at, figures, listing-is}
+use Rattle.lent_text.specs.Putting.{Put}
+use Rattle.judged.specs.Judged.{judgedSheet}
+use Rattle.judged.specs.Held.{Stands}
+use Rattle.judged.proofs.Standing.{few, sets-many, pairs, polygons-at}
+use Rattle.listing_lines.specs.Printing.{Figures, linesBy}
+use Rattle.listing.specs.Held.{AreasOf}
+use Rattle.listing.specs.Listing.{listing}
+use Rattle.listing.proofs.Sheet.{figures, listing-is}
 use Rattle.listing.proofs.put_judged.Statement.{statement}
 use Rattle.listing.proofs.put_judged.Tie as tie
 
-mul-polygons : tie.Need-mul-polygons
-mul-polygons c = let p = c .before .before .before .before .pre .0 .1 in omega (arith, few p)
+-- ---- places: the entry of the function, the call of `lay_areas`, the call of `repair`
+abbrev entry : tie.After-shared-slice-known4 → tie.Start
+entry c = c .before .before .before .before .before
 
-add-polygons : tie.Need-add-polygons
-add-polygons c = let p = c .before .before .before .before .pre .0 .1 in omega (arith, few p)
+abbrev start : tie.After-lay-areas → tie.Start
+start c = entry (c .before .before)
 
-mul-polygons-2 : tie.Need-mul-polygons-2
-mul-polygons-2 c = let p = c .before .before .before .before .pre .0 .1 in omega (arith, few p)
+abbrev laid : tie.After-repair → tie.After-lay-areas
+laid c = c .before .before .before .before .before
 
-shared-slice-read-polygons : tie.Need-shared-slice-read-polygons
-shared-slice-read-polygons c = polygons-at (c .before .before .before .before .before .pre .0 .1) .0
+-- The bytes s come to what stands in the lists.
+abbrev Judged : tie.Start → List ℕ → Type 0
+Judged c s = let a = c .args in Stands s (a .n) (now (a .numbers)) (now (a .opposite)) (now (a .sets))
 
-sub-polygons : tie.Need-sub-polygons
-sub-polygons c = let p = c .before .before .before .before .before .pre .0 .1 in omega (arith, polygons-at p .1)
+-- The owner set of each triangle.
+abbrev owned : tie.Start → List ℕ
+owned c = take (c .args .n) (now (c .args .sets))
 
-area-list-requires : tie.Need-area-list-requires
-area-list-requires c κs = search needs
+-- ---- the areas and the owner numbers that were left: one for each triangle, at the front of the work lists
+abbrev areas : tie.After-lay-areas → List ℕ
+areas c = c .lay-areas .last .1 .0
 
-owner-list-requires : tie.Need-owner-list-requires
-owner-list-requires c κs = search needs
+areas-many : (c : tie.After-lay-areas) → length (areas c) ≡ start c .args .n
+areas-many c = c .lay-areas .kept .1 .0 ∙ length-take-le _ _ (few (start c .pre .0 .1))
 
-array-borrow-prefix-areas : tie.Need-array-borrow-prefix-areas
-array-borrow-prefix-areas c = let p = c .before .before .before .before .before .before .before .pre .0 .1 in omega (arith, few p)
+areas-are : (c : tie.After-lay-areas) (s : List ℕ) (w : Judged (start c) s) → AreasOf (w .n) (areas c)
+areas-are c s w =
+    let a = start c .args in
+    subst (λ t. (s opposite l : List ℕ) (w : Stands s t (now (a .numbers)) opposite l) → AreasOf (w .n) (areas c)) (length-take-le _ _ (few w)) (c .lay-areas .ensures)
+    s (now (a .opposite)) (now (a .sets)) w
 
-slice-aggregate-lay-areas : tie.Need-slice-aggregate-lay-areas
-slice-aggregate-lay-areas c = let p = c .before .before .before .before .before .before .before .before .pre .0 .1 in sym (length-take-le _ _ (omega (arith, few p, c .before .before .area-list .ensures)))
+areas-room : (c : tie.After-lay-areas) (rest : List ℕ) → start c .args .n ≤ length (areas c ++ rest)
+areas-room c rest = omega (arith, length-append (areas c) rest, areas-many c)
+
+abbrev owners : tie.After-repair → List ℕ
+owners c = c .repair .last .1 .1 .0
+
+owners-many : (c : tie.After-repair) → length (owners c) ≡ start (laid c) .args .n
+owners-many c = c .repair .kept .1 .1 .0 ∙ length-take-le _ _ (few (start (laid c) .pre .0 .1))
+
+owners-room : (c : tie.After-repair) (rest : List ℕ) → start (laid c) .args .n ≤ length (owners c ++ rest)
+owners-room c rest = omega (arith, length-append (owners c) rest, owners-many c)
+
+-- ---- the lines by them
+figures-are : (c : tie.After-repair) (x y : List ℕ) → x ≡ owners c → y ≡ areas (laid c) → Figures (owned (start (laid c))) x y
+figures-are c x y e f = let p = start (laid c) .pre .0 in rw (e, f) (figures (p .1) (owners c) (areas-are (laid c) (p .0) (p .1)) (owners-many c))
+
+lines-are : (c : tie.After-repair) (s : List ℕ) (w : Judged (start (laid c)) s) (x y : List ℕ) → x ≡ owners c → y ≡ areas (laid c)
+    → let a = start (laid c) .args in linesBy (c .repair .result) (getD (now (a .numbers)) (1 + 6 * a .n) 0 - 10_000_000) (owned (start (laid c))) x y ≡ listing (judgedSheet s)
+lines-are c s w x y e f =
+    let a = start (laid c) .args in
+    let m : getD (now (a .numbers)) (1 + 6 * a .n) 0 - 10_000_000 ≡ length (w .n .polygons) = omega (arith, polygons-at w .1) in
+    rw (e, f, m) (listing-is w (owners c) (areas-are (laid c) s w) (owners-many c) (c .repair .result) (c .repair .ensures))
 
 lay-areas-requires : tie.Need-lay-areas-requires
 lay-areas-requires c κs =
-    let p = c .before .before .before .before .before .before .before .before .pre .0 .1 in
-    (c .before .before .before .before .before .before .before .before .pre .0 .0, now (c .before .before .before .before .before .before .before .before .args .opposite), now (c .before .before .before .before .before .before .before .before .args .sets), p, sets-many p ∙ sym (length-take-le (length (now (c .before .before .before .before .before .before .before .before .args .sets))) (c .before .before .area-list .result) (omega (arith, few p, c .before .before .area-list .ensures))))
-
-array-borrow-prefix-owners : tie.Need-array-borrow-prefix-owners
-array-borrow-prefix-owners c = let p = c .before .before .before .before .before .before .before .before .before .before .pre .0 .1 in omega (arith, few p)
-
-slice-aggregate-repair : tie.Need-slice-aggregate-repair
-slice-aggregate-repair c = let p = c .before .before .before .before .before .before .before .before .before .before .before .pre .0 .1 in sym (length-take-le _ _ (omega (arith, few p, c .before .before .before .before .owner-list .ensures)))
+    let s = entry (c .before) in
+    let a = s .args in
+    let w = s .pre .0 in
+    (w .0, now (a .opposite), now (a .sets), subst (λ t. Stands (w .0) t (now (a .numbers)) (now (a .opposite)) (now (a .sets))) (sym (length-take-le _ _ (few (w .1)))) (w .1))
 
 repair-requires : tie.Need-repair-requires
-repair-requires c κs = let p = c .before .before .before .before .before .before .before .before .before .before .before .pre .0 .1 in (pairs p, length-take-le _ _ (omega (arith, few p, c .before .before .before .before .owner-list .ensures)), few p)
-
-array-share-prefix-owners : tie.Need-array-share-prefix-owners
-array-share-prefix-owners c = omega (arith, length-append (c .before .before .repair .last .1 .1 .0) (drop (length (now (c .before .before .before .before .before .before .before .before .before .before .before .before .before .before .args .sets))) (c .before .before .before .before .before .before .before .owner-list .result)), c .before .before .repair .kept .1 .1 .0 ∙ length-take-le (length (now (c .before .before .before .before .before .before .before .before .before .before .before .before .before .before .args .sets))) (c .before .before .before .before .before .before .before .owner-list .result) (omega (arith, few (c .before .before .before .before .before .before .before .before .before .before .before .before .before .before .pre .0 .1), c .before .before .before .before .before .before .before .owner-list .ensures)))
-
-slice-aggregate-put-lines : tie.Need-slice-aggregate-put-lines
-slice-aggregate-put-lines c = sym (length-take-le _ _ (omega (arith, length-append (c .before .before .before .repair .last .1 .1 .0) (drop (length (now (c .before .before .before .before .before .before .before .before .before .before .before .before .before .before .before .args .sets))) (c .before .before .before .before .before .before .before .before .owner-list .result)), c .before .before .before .repair .kept .1 .1 .0 ∙ length-take-le (length (now (c .before .before .before .before .before .before .before .before .before .before .before .before .before .before .before .args .sets))) (c .before .before .before .before .before .before .before .before .owner-list .result) (omega (arith, few (c .before .before .before .before .before .before .before .before .before .before .before .before .before .before .before .pre .0 .1), c .before .before .before .before .before .before .before .before .owner-list .ensures)))))
-
-array-share-prefix-areas : tie.Need-array-share-prefix-areas
-array-share-prefix-areas c = omega (arith, length-append (c .before .before .before .before .before .before .lay-areas .last .1 .0) (drop (length (now (c .before .before .before .before .before .before .before .before .before .before .before .before .before .before .before .args .sets))) (c .before .before .before .before .before .before .before .before .before .area-list .result)), c .before .before .before .before .before .before .lay-areas .kept .1 .0 ∙ length-take-le (length (now (c .before .before .before .before .before .before .before .before .before .before .before .before .before .before .before .args .sets))) (c .before .before .before .before .before .before .before .before .before .area-list .result) (omega (arith, few (c .before .before .before .before .before .before .before .before .before .before .before .before .before .before .before .pre .0 .1), c .before .before .before .before .before .before .before .before .before .area-list .ensures)))
-
-slice-aggregate-put-lines-2 : tie.Need-slice-aggregate-put-lines-2
-slice-aggregate-put-lines-2 c = sym (length-take-le _ _ (omega (arith, length-append (c .before .before .before .before .before .before .before .lay-areas .last .1 .0) (drop (length (now (c .before .before .before .before .before .before .before .before .before .before .before .before .before .before .before .before .args .sets))) (c .before .before .before .before .before .before .before .before .before .before .area-list .result)), c .before .before .before .before .before .before .before .lay-areas .kept .1 .0 ∙ length-take-le (length (now (c .before .before .before .before .before .before .before .before .before .before .before .before .before .before .before .before .args .sets))) (c .before .before .before .before .before .before .before .before .before .before .area-list .result) (omega (arith, few (c .before .before .before .before .before .before .before .before .before .before .before .before .before .before .before .before .pre .0 .1), c .before .before .before .before .before .before .before .before .before .before .area-list .ensures)))))
+repair-requires c κs = let w = start (c .before .before .before .before) .pre .0 .1 in (pairs w, length-take-le _ _ (few w) ∙ sym (sets-many w), omega (arith, few w, sets-many w))
 
 put-lines-requires : tie.Need-put-lines-requires
 put-lines-requires c κs =
-    let p = c .before .before .before .before .before .before .before .before .before .before .before .before .before .before .before .before .pre .0 .1 in
-    let a : take (length (now (c .before .before .before .before .before .before .before .before .before .before .before .before .before .before .before .before .args .sets))) (c .before .before .before .before .before .before .before .lay-areas .last .1 .0 ++ drop (length (now (c .before .before .before .before .before .before .before .before .before .before .before .before .before .before .before .before .args .sets))) (c .before .before .before .before .before .before .before .before .before .before .area-list .result)) ≡ c .before .before .before .before .before .before .before .lay-areas .last .1 .0 = take-at (c .before .before .before .before .before .before .before .lay-areas .last .1 .0) (drop (length (now (c .before .before .before .before .before .before .before .before .before .before .before .before .before .before .before .before .args .sets))) (c .before .before .before .before .before .before .before .before .before .before .area-list .result)) (length (now (c .before .before .before .before .before .before .before .before .before .before .before .before .before .before .before .before .args .sets))) (c .before .before .before .before .before .before .before .lay-areas .kept .1 .0 ∙ length-take-le (length (now (c .before .before .before .before .before .before .before .before .before .before .before .before .before .before .before .before .args .sets))) (c .before .before .before .before .before .before .before .before .before .before .area-list .result) (omega (arith, few (c .before .before .before .before .before .before .before .before .before .before .before .before .before .before .before .before .pre .0 .1), c .before .before .before .before .before .before .before .before .before .before .area-list .ensures))) in
-    let o : take (length (now (c .before .before .before .before .before .before .before .before .before .before .before .before .before .before .before .before .args .sets))) (c .before .before .before .before .repair .last .1 .1 .0 ++ drop (length (now (c .before .before .before .before .before .before .before .before .before .before .before .before .before .before .before .before .args .sets))) (c .before .before .before .before .before .before .before .before .before .owner-list .result)) ≡ c .before .before .before .before .repair .last .1 .1 .0 = take-at (c .before .before .before .before .repair .last .1 .1 .0) (drop (length (now (c .before .before .before .before .before .before .before .before .before .before .before .before .before .before .before .before .args .sets))) (c .before .before .before .before .before .before .before .before .before .owner-list .result)) (length (now (c .before .before .before .before .before .before .before .before .before .before .before .before .before .before .before .before .args .sets))) (c .before .before .before .before .repair .kept .1 .1 .0 ∙ length-take-le (length (now (c .before .before .before .before .before .before .before .before .before .before .before .before .before .before .before .before .args .sets))) (c .before .before .before .before .before .before .before .before .before .owner-list .result) (omega (arith, few (c .before .before .before .before .before .before .before .before .before .before .before .before .before .before .before .before .pre .0 .1), c .before .before .before .before .before .before .before .before .before .owner-list .ensures))) in
-    ((subst (λ x. Figures (now (c .before .before .before .before .before .before .before .before .before .before .before .before .before .before .before .before .args .sets)) x (take (length (now (c .before .before .before .before .before .before .before .before .before .before .before .before .before .before .before .before .args .sets))) (c .before .before .before .before .before .before .before .lay-areas .last .1 .0 ++ drop (length (now (c .before .before .before .before .before .before .before .before .before .before .before .before .before .before .before .before .args .sets))) (c .before .before .before .before .before .before .before .before .before .before .area-list .result)))) (sym o) (subst (λ x. Figures (now (c .before .before .before .before .before .before .before .before .before .before .before .before .before .before .before .before .args .sets)) (c .before .before .before .before .repair .last .1 .1 .0) x) (sym a) (figures p (c .before .before .before .before .repair .last .1 .1 .0) (c .before .before .before .before .before .before .before .lay-areas .ensures (c .before .before .before .before .before .before .before .before .before .before .before .before .before .before .before .before .pre .0 .0) (now (c .before .before .before .before .before .before .before .before .before .before .before .before .before .before .before .before .args .opposite)) (now (c .before .before .before .before .before .before .before .before .before .before .before .before .before .before .before .before .args .sets)) p (sets-many p ∙ sym (length-take-le (length (now (c .before .before .before .before .before .before .before .before .before .before .before .before .before .before .before .before .args .sets))) (c .before .before .before .before .before .before .before .before .before .before .area-list .result) (omega (arith, few p, c .before .before .before .before .before .before .before .before .before .before .area-list .ensures))))) (c .before .before .before .before .repair .kept .1 .1 .0 ∙ length-take-le (length (now (c .before .before .before .before .before .before .before .before .before .before .before .before .before .before .before .before .args .sets))) (c .before .before .before .before .before .before .before .before .before .owner-list .result) (omega (arith, few (c .before .before .before .before .before .before .before .before .before .before .before .before .before .before .before .before .pre .0 .1), c .before .before .before .before .before .before .before .before .before .owner-list .ensures)))))), omega (arith, polygons-at p .1, few-polygons p), omega (arith, c .before .before .before .before .before .before .before .before .before .before .before .before .before .before .before .before .pre .1))
-
-same-length : tie.Need-same-length
-same-length c = search needs
+    let r = c .before .before .before .before .before in
+    let s = start (laid r) in
+    let w = s .pre .0 .1 in
+    (figures-are r _ _ (take-at (owners r) _ _ (owners-many r)) (take-at (areas (laid r)) _ _ (areas-many (laid r))), omega (arith, polygons-at w .1, w .held .few-polygons), s .pre .1)
 
 returns : tie.Need-returns
-returns c = (
-  c .before .before .put-lines .ensures .0,
-  λ n j.
-      let p = c .before .before .before .before .before .before .before .before .before .before .before .before .before .before .before .before .before .before .before .pre .0 .1 in
-      let s = now (c .before .before .before .before .before .before .before .before .before .before .before .before .before .before .before .before .before .before .before .args .sets) in
-      let m : getD (now (c .before .before .before .before .before .before .before .before .before .before .before .before .before .before .before .before .before .before .before .args .numbers)) (1 + 6 * length s) 0 - 10000000 ≡ length (n .polygons) = omega (arith, polygons-at j .1) in
-      let a : take (length s) (c .before .before .before .before .before .before .before .before .before .before .lay-areas .last .1 .0 ++ drop (length (now (c .before .before .before .before .before .before .before .before .before .before .before .before .before .before .before .before .before .before .before .args .sets))) (c .before .before .before .before .before .before .before .before .before .before .before .before .before .area-list .result)) ≡ c .before .before .before .before .before .before .before .before .before .before .lay-areas .last .1 .0 = take-at (c .before .before .before .before .before .before .before .before .before .before .lay-areas .last .1 .0) (drop (length (now (c .before .before .before .before .before .before .before .before .before .before .before .before .before .before .before .before .before .before .before .args .sets))) (c .before .before .before .before .before .before .before .before .before .before .before .before .before .area-list .result)) (length s) (c .before .before .before .before .before .before .before .before .before .before .lay-areas .kept .1 .0 ∙ length-take-le (length (now (c .before .before .before .before .before .before .before .before .before .before .before .before .before .before .before .before .before .before .before .args .sets))) (c .before .before .before .before .before .before .before .before .before .before .before .before .before .area-list .result) (omega (arith, few (c .before .before .before .before .before .before .before .before .before .before .before .before .before .before .before .before .before .before .before .pre .0 .1), c .before .before .before .before .before .before .before .before .before .before .before .before .before .area-list .ensures))) in
-      let o : take (length s) (c .before .before .before .before .before .before .before .repair .last .1 .1 .0 ++ drop (length (now (c .before .before .before .before .before .before .before .before .before .before .before .before .before .before .before .before .before .before .before .args .sets))) (c .before .before .before .before .before .before .before .before .before .before .before .before .owner-list .result)) ≡ c .before .before .before .before .before .before .before .repair .last .1 .1 .0 = take-at (c .before .before .before .before .before .before .before .repair .last .1 .1 .0) (drop (length (now (c .before .before .before .before .before .before .before .before .before .before .before .before .before .before .before .before .before .before .before .args .sets))) (c .before .before .before .before .before .before .before .before .before .before .before .before .owner-list .result)) (length s) (c .before .before .before .before .before .before .before .repair .kept .1 .1 .0 ∙ length-take-le (length (now (c .before .before .before .before .before .before .before .before .before .before .before .before .before .before .before .before .before .before .before .args .sets))) (c .before .before .before .before .before .before .before .before .before .before .before .before .owner-list .result) (omega (arith, few (c .before .before .before .before .before .before .before .before .before .before .before .before .before .before .before .before .before .before .before .pre .0 .1), c .before .before .before .before .before .before .before .before .before .before .before .before .owner-list .ensures))) in
-      let k = sets-many j ∙ sym (length-take-le (length s) (c .before .before .before .before .before .before .before .before .before .before .before .before .before .area-list .result) (omega (arith, few p, c .before .before .before .before .before .before .before .before .before .before .before .before .before .area-list .ensures))) in
-      subst (λ lines. Put 0 lines (now (c .before .before .before .before .before .before .before .before .before .before .before .before .before .before .before .before .before .before .before .args .text)) (c .before .before .put-lines .result) (c .before .before .put-lines .last .0))
-      (ap₂ (λ x y. linesBy (c .before .before .before .before .before .before .before .repair .result) (getD (now (c .before .before .before .before .before .before .before .before .before .before .before .before .before .before .before .before .before .before .before .args .numbers)) (1 + 6 * length s) 0 - 10000000) s x y) o a
-      ∙ ap (λ m. linesBy (c .before .before .before .before .before .before .before .repair .result) m s (c .before .before .before .before .before .before .before .repair .last .1 .1 .0) (c .before .before .before .before .before .before .before .before .before .before .lay-areas .last .1 .0)) m
-      ∙ listing-is j (c .before .before .before .before .before .before .before .repair .last .1 .1 .0) (c .before .before .before .before .before .before .before .before .before .before .lay-areas .ensures n (now (c .before .before .before .before .before .before .before .before .before .before .before .before .before .before .before .before .before .before .before .args .opposite)) s j k) (c .before .before .before .before .before .before .before .repair .kept .1 .1 .0 ∙ length-take-le (length (now (c .before .before .before .before .before .before .before .before .before .before .before .before .before .before .before .before .before .before .before .args .sets))) (c .before .before .before .before .before .before .before .before .before .before .before .before .owner-list .result) (omega (arith, few (c .before .before .before .before .before .before .before .before .before .before .before .before .before .before .before .before .before .before .before .pre .0 .1), c .before .before .before .before .before .before .before .before .before .before .before .before .owner-list .ensures))) (c .before .before .before .before .before .before .before .repair .result) (c .before .before .before .before .before .before .before .repair .ensures))
-      (c .before .before .put-lines .ensures .1),
-)
+returns c =
+    let p = c .before .before .put-lines in
+    let r = c .before .before .before .before .before .before .before .before in (
+      p .ensures .0,
+      λ s w. subst (λ lines. Put 0 lines (now (start (laid r) .args .text)) (p .result) (p .last .0))
+          (lines-are r s w _ _ (take-at (owners r) _ _ (owners-many r)) (take-at (areas (laid r)) _ _ (areas-many (laid r)))) (p .ensures .1),
+    )
 
 pub put-judged-spec : {M : Type 1} → statement M
 put-judged-spec =
     tie.close
     (tie.spec
-    mul-polygons
-    add-polygons
-    mul-polygons-2
-    shared-slice-read-polygons
-    sub-polygons
-    area-list-requires
-    owner-list-requires
-    array-borrow-prefix-areas
-    slice-aggregate-lay-areas
+    (λ c. omega (arith, few (c .before .before .before .before .pre .0 .1)))
+    (λ c. omega (arith, few (c .before .before .before .before .pre .0 .1)))
+    (λ c. omega (arith, few (c .before .before .before .before .pre .0 .1)))
+    (λ c. polygons-at (entry c .pre .0 .1) .0)
+    (λ c. omega (arith, polygons-at (entry c .pre .0 .1) .1))
+    (λ c. omega (arith, few (entry c .pre .0 .1)))
+    (λ c. sym (length-take-le _ _ (few (entry (c .before) .pre .0 .1))))
     lay-areas-requires
-    array-borrow-prefix-owners
-    slice-aggregate-repair
+    (λ c. omega (arith, few (start (c .before) .pre .0 .1)))
+    (λ c. let w = start (c .before .before) .pre .0 .1 in omega (arith, pairs w .sides, sets-many w))
+    (λ c. sym (sets-many (start (c .before .before .before) .pre .0 .1)))
+    (λ c. omega (arith, few (start (c .before .before .before) .pre .0 .1)))
+    (λ c. sym (length-take-le _ _ (few (start (c .before .before .before .before) .pre .0 .1))))
     repair-requires
-    array-share-prefix-owners
-    slice-aggregate-put-lines
-    array-share-prefix-areas
-    slice-aggregate-put-lines-2
+    (λ c. sym (sets-many (start (laid (c .before .before .before)) .pre .0 .1)))
+    (λ c. owners-room (c .before .before .before) _)
+    (λ c. sym (length-take-le _ _ (owners-room (c .before .before .before .before) _)))
+    (λ c. areas-room (laid (c .before .before .before .before)) _)
+    (λ c. sym (length-take-le _ _ (areas-room (laid (c .before .before .before .before .before)) _)))
     put-lines-requires
-    same-length
+    (λ c. search needs)
     returns)

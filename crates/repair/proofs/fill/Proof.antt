@@ -21,17 +21,11 @@ mul-owners c = let s = c .before .before in omega (arith, s .pre .1)
 shared-slice-read-owners : tie.Need-shared-slice-read-owners Inv-loop μ-loop
 shared-slice-read-owners c = let s = c .before .before .before in omega (arith, s .pre .1)
 
-mul-owners-2 : tie.Need-mul-owners-2 Inv-loop μ-loop
-mul-owners-2 c = let s = c .before .before .before in let l = c .before .before .loop in omega (arith, s .pre .2 (l .i) (omega arith))
-
 slice-write-owners : tie.Need-slice-write-owners Inv-loop μ-loop
 slice-write-owners c = let s = c .before .before .before in let l = c .before .before .loop in omega (arith, s .pre .2 (l .i) (omega arith), l .inv .0 .as-many)
 
 add-i : tie.Need-add-i Inv-loop μ-loop
 add-i c = let s = c .before .before .before in omega (arith, s .pre .1)
-
-loop-less : tie.Need-loop-less Inv-loop μ-loop
-loop-less c = omega arith
 
 loop-again : tie.Need-loop-again Inv-loop μ-loop
 loop-again c = let s = c .before .before .before in let l = c .before .before .loop in (filled-one (l .inv .0) (l .inv .1) (omega (arith, s .pre .2 (l .i) (omega arith), l .inv .0 .as-many)), omega arith, omega arith)
@@ -51,10 +45,9 @@ fill-spec =
     loop-holds
     mul-owners
     shared-slice-read-owners
-    mul-owners-2
     slice-write-owners
     add-i
-    loop-less
+    (λ c. omega arith)
     loop-again
     same-length
     returns)

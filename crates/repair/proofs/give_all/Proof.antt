@@ -16,6 +16,13 @@ Inv-loop opposite numbers met₀ group₀ owners₀ n₀ t₀ met group owners n
 abbrev μ-loop : tie.MeasureT-loop
 μ-loop opposite numbers met₀ group₀ owners₀ n₀ t₀ met group owners n t = length numbers - t
 
+-- ---- places: the entry of the function, and the turn of the loop that ends
+abbrev start : tie.At-loop Inv-loop μ-loop → tie.Start Inv-loop μ-loop
+start c = c .before .before .before .before .before .before
+
+abbrev turn : tie.After-slice-known6 Inv-loop μ-loop → tie.At-loop Inv-loop μ-loop
+turn c = c .before .before .before .before .before .before .before .before .before .before .before
+
 loop-holds : tie.Need-loop-holds Inv-loop μ-loop
 loop-holds c =
     let s = c .before .before .before .before .before in
@@ -24,33 +31,24 @@ loop-holds c =
 give-requires : tie.Need-give-requires Inv-loop μ-loop
 give-requires c κs =
     let l = c .before .before .before .before in
-    (l .before .before .before .before .before .before .pre .0, l .loop .inv .0, omega arith)
-
-add-t : tie.Need-add-t Inv-loop μ-loop
-add-t c =
-    let l = c .before .before .before .before .before .before .before .before .before .before .before in
-    let s = l .before .before .before .before .before .before in
-    omega (arith, l .loop .inv .2)
-
-loop-less : tie.Need-loop-less Inv-loop μ-loop
-loop-less c = let l = c .before .before .before .before .before .before .before .before .before .before .before .loop in omega arith
+    (start l .pre .0, l .loop .inv .0, omega arith)
 
 loop-again : tie.Need-loop-again Inv-loop μ-loop
 loop-again c =
-    let l = c .before .before .before .before .before .before .before .before .before .before .before .loop in
+    let l = turn c .loop in
     let a = c .before .before .before .before .before .before .give .ensures in
     (a .0, met-next (l .inv .1) (a .1), omega arith)
 
 same-length : tie.Need-same-length Inv-loop μ-loop
 same-length c =
-    let s = c .before .before .before .before .before .before .before in
+    let s = start (c .before) in
     c .before .loop .inv .0 .meeting .marks ∙ sym (ap length (s .pre .1) ∙ length-replicate (length (now (s .args .numbers))) false)
 
 same-length-2 : tie.Need-same-length-2 Inv-loop μ-loop
-same-length-2 c = c .before .loop .inv .0 .meeting .room ∙ sym (c .before .before .before .before .before .before .before .pre .2)
+same-length-2 c = c .before .loop .inv .0 .meeting .room ∙ sym (start (c .before) .pre .2)
 
 same-length-3 : tie.Need-same-length-3 Inv-loop μ-loop
-same-length-3 c = c .before .loop .inv .0 .as-many ∙ sym (ap length (c .before .before .before .before .before .before .before .pre .3))
+same-length-3 c = c .before .loop .inv .0 .as-many ∙ sym (ap length (start (c .before) .pre .3))
 
 returns : tie.Need-returns Inv-loop μ-loop
 returns c = let l = c .before .loop in all-given (l .inv .0) (λ u h. l .inv .1 u (omega arith))
@@ -63,8 +61,8 @@ give-all-spec =
     μ-loop
     loop-holds
     give-requires
-    add-t
-    loop-less
+    (λ c. let l = turn c in omega (arith, l .loop .inv .2))
+    (λ c. let l = turn c .loop in omega arith)
     loop-again
     same-length
     same-length-2

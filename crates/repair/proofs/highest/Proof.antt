@@ -15,22 +15,10 @@ abbrev μ-loop : tie.MeasureT-loop
 loop-holds : tie.Need-loop-holds Inv-loop μ-loop
 loop-holds c = (best-none _ _ _ _, omega arith, c .before .before .before .pre .1)
 
-mul-with-triangle : tie.Need-mul-with-triangle Inv-loop μ-loop
-mul-with-triangle c = omega arith
-
-shared-slice-read-with-triangle : tie.Need-shared-slice-read-with-triangle Inv-loop μ-loop
-shared-slice-read-with-triangle c = omega arith
-
 with-triangle-requires : tie.Need-with-triangle-requires Inv-loop μ-loop
 with-triangle-requires c κs =
     let s = c .before .before .before .before .before .before in
     (s .pre .0, s .pre .3 (c .before .before .loop .i) (omega arith))
-
-add-i : tie.Need-add-i Inv-loop μ-loop
-add-i c = omega arith
-
-loop-less : tie.Need-loop-less Inv-loop μ-loop
-loop-less c = omega arith
 
 loop-again : tie.Need-loop-again Inv-loop μ-loop
 loop-again c =
@@ -48,10 +36,10 @@ highest-spec =
     Inv-loop
     μ-loop
     loop-holds
-    mul-with-triangle
-    shared-slice-read-with-triangle
+    (λ c. omega arith)
+    (λ c. omega arith)
     with-triangle-requires
-    add-i
-    loop-less
+    (λ c. omega arith)
+    (λ c. omega arith)
     loop-again
     returns)

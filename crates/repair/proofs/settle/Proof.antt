@@ -6,7 +6,7 @@ use borrow.Author.Needs.{needs}
 use denote.Ref.{now}
 use lib.ListN.{length, getD, length-set, length-map}
 use lib.Seq.{ext-getD}
-use Rattle.marks.specs.Marks.{standingOf}
+use Rattle.owners_marks.specs.Marks.{standingOf}
 use Rattle.repair.specs.Repair.{settledBy, settled}
 use Rattle.repair.proofs.Filling.{set-next, settled-at}
 use Rattle.repair.proofs.settle.Statement.{statement}
@@ -21,27 +21,6 @@ abbrev μ-loop : tie.MeasureT-loop
 
 loop-holds : tie.Need-loop-holds Inv-loop μ-loop
 loop-holds c = (omega arith, refl, λ i h. absurd (omega arith))
-
-mul-owner-of : tie.Need-mul-owner-of Inv-loop μ-loop
-mul-owner-of c = search needs
-
-shared-slice-read-owner-of : tie.Need-shared-slice-read-owner-of Inv-loop μ-loop
-shared-slice-read-owner-of c = omega arith
-
-owner-of-requires : tie.Need-owner-of-requires Inv-loop μ-loop
-owner-of-requires c κs = search needs
-
-mul-numbers : tie.Need-mul-numbers Inv-loop μ-loop
-mul-numbers c = search needs
-
-slice-write-numbers : tie.Need-slice-write-numbers Inv-loop μ-loop
-slice-write-numbers c = omega arith
-
-add-t : tie.Need-add-t Inv-loop μ-loop
-add-t c = omega arith
-
-loop-less : tie.Need-loop-less Inv-loop μ-loop
-loop-less c = omega arith
 
 loop-again : tie.Need-loop-again Inv-loop μ-loop
 loop-again c =
@@ -69,13 +48,12 @@ settle-spec =
     Inv-loop
     μ-loop
     loop-holds
-    mul-owner-of
-    shared-slice-read-owner-of
-    owner-of-requires
-    mul-numbers
-    slice-write-numbers
-    add-t
-    loop-less
+    (λ c. search needs)
+    (λ c. omega arith)
+    (λ c κs. search needs)
+    (λ c. omega arith)
+    (λ c. omega arith)
+    (λ c. omega arith)
     loop-again
     same-length
     returns)

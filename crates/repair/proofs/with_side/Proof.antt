@@ -8,22 +8,8 @@ use borrow.Author.Needs.{needs}
 use Rattle.repair.proofs.with_side.Statement.{statement}
 use Rattle.repair.proofs.with_side.Tie as tie
 
-mul-o : tie.Need-mul-o
-mul-o c = search needs
-
-shared-slice-read-o : tie.Need-shared-slice-read-o
-shared-slice-read-o c = search needs
-
 returns : tie.Need-returns
 returns c = let s = c .before .before .args in side-none (now (s .opposite)) (now (s .numbers)) (s .best) _ (c .if1 .taken)
-
-sub-number : tie.Need-sub-number
-sub-number c = search needs
-
-mul-number : tie.Need-mul-number
-mul-number c =
-    let s = c .before .before in
-    omega (arith, s .pre .0 .there (s .args .k) (getD (now (s .args .opposite)) (s .args .k) 0 - 1) (omega (arith, c .if1 .left)), s .pre .0 .sides)
 
 shared-slice-read-number : tie.Need-shared-slice-read-number
 shared-slice-read-number c =
@@ -40,11 +26,10 @@ pub with-side-spec : {M : Type 1} → statement M
 with-side-spec =
     tie.close
     (tie.spec
-    mul-o
-    shared-slice-read-o
+    (λ c. search needs)
+    (λ c. search needs)
     returns
-    sub-number
-    mul-number
+    (λ c. search needs)
     shared-slice-read-number
     returns-2
     returns-3)

@@ -2,8 +2,8 @@
 use mathlib.Core.Path.{_≡_, refl, sym, _∙_}
 use native.Mathlib.Omega.{arith}
 use borrow.Author.Needs.{needs}
-use Rattle.coordinate.specs.Coordinate.{coordinateOf}
-use Rattle.coordinate.specs.declared.Coordinate.the-variants.{Whole, Not}
+use Rattle.sheet_coordinate.specs.Coordinate.{coordinateOf}
+use Rattle.sheet_coordinate.specs.declared.Coordinate.the-variants.{Whole, Not}
 use Rattle.sheet.specs.Reading.{judged}
 use Rattle.sheet.proofs.judged.Statement.{statement}
 use Rattle.sheet.proofs.judged.Tie as tie

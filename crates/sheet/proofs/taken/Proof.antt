@@ -1,7 +1,7 @@
 -- `sheet::taken` meets its contract, by the answers of a step. Assumes nothing.
 use mathlib.Core.Path.{_≡_, refl, subst}
-use Rattle.kinds.specs.declared.Slot.{Slot}
-use Rattle.kinds.specs.Kinds.{slotAt}
+use Rattle.wkb_kinds.specs.declared.Slot.{Slot}
+use Rattle.wkb_kinds.specs.Kinds.{slotAt}
 use Rattle.wkb.specs.declared.Cursor.{Cursor}
 use Rattle.wkb.specs.Steps.{slotOf}
 use Rattle.sheet.specs.Reading.{taken}

@@ -1,6 +1,6 @@
 -- `wkb::double` meets its contract: the pattern is the number of the 8 bytes. Assumes nothing.
 use borrow.Author.Needs.{needs}
-use Rattle.little.specs.Ordered.{doubleAt}
+use Rattle.lent_little.specs.Ordered.{doubleAt}
 use Rattle.wkb.proofs.double.Statement.{statement}
 use Rattle.wkb.proofs.double.Tie as tie
 

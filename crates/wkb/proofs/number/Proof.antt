@@ -5,7 +5,7 @@ use mathlib.Core.Path.{_≡_, sym}
 use Prim.Native.Nat.{_≤_, _<_, _-_, _*_, _^_}
 use native.Mathlib.Omega.{arith}
 use lib.Dec.{lit<}
-use Rattle.little.proofs.Ordered.{top, top-none, top-more, top-all, grow, word-fits}
+use Rattle.lent_little.proofs.Ordered.{top, top-none, top-more, top-all, grow, word-fits}
 use Rattle.wkb.proofs.number.Statement.{statement}
 use Rattle.wkb.proofs.number.Tie as tie
 

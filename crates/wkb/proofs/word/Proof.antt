@@ -1,6 +1,6 @@
 -- `wkb::word` meets its contract: the number of 4 bytes is below 2 ^ 32, so the cast keeps it. Assumes nothing.
 use borrow.Author.Needs.{needs}
-use Rattle.little.specs.Ordered.{wordAt}
+use Rattle.lent_little.specs.Ordered.{wordAt}
 use Rattle.wkb.proofs.word.Statement.{statement}
 use Rattle.wkb.proofs.word.Tie as tie
 

@@ -1,7 +1,7 @@
 //! Damaged bytes of every kind.
 
 use super::dice::Dice;
-use super::draft::{double_bytes, number_bytes, Encoded, Field, Mark};
+use crate::made::{double_bytes, number_bytes, number_of, Encoded, Field, Mark};
 
 /// Damages the bytes once.
 pub fn apply(dice: &mut Dice, encoded: &mut Encoded) {
@@ -91,12 +91,7 @@ type Change = fn(&mut Dice, &[u8], bool) -> (usize, Vec<u8>);
 /// Changes a field of one of these kinds, if the bytes still reach so far.
 fn at_field(dice: &mut Dice, encoded: &mut Encoded, fields: &[Field], change: Change) {
     let Mark { field, place, little } = some_mark(dice, encoded, fields);
-    let length = match field {
-        Field::Order => 1,
-        Field::Kind | Field::Count => 4,
-        Field::Point | Field::LastPoint => 16,
-    };
-    if let Some(old) = encoded.bytes.get_mut(place..place + length) {
+    if let Some(old) = encoded.bytes.get_mut(place..place + field.length()) {
         let (at, new) = change(dice, old, little);
         old[at..at + new.len()].copy_from_slice(&new);
     }
@@ -108,12 +103,7 @@ fn order(dice: &mut Dice, old: &[u8], _: bool) -> (usize, Vec<u8>) {
 }
 
 fn number(old: &[u8], little: bool) -> u32 {
-    let bytes: [u8; 4] = old.try_into().unwrap();
-    if little {
-        u32::from_le_bytes(bytes)
-    } else {
-        u32::from_be_bytes(bytes)
-    }
+    number_of(old.try_into().unwrap(), little)
 }
 
 fn kind(dice: &mut Dice, old: &[u8], little: bool) -> (usize, Vec<u8>) {

@@ -1,8 +1,9 @@
-//! A sheet as it will stand in bytes, within the limits or not, and its encoding.
+//! A sheet with its nesting, within the limits or not, and the many styles of its bytes.
 
 use super::dice::Dice;
+use crate::made::{Doubles, Encoded, Geometry};
 use crate::reading::{COLLECTION, MULTI_POLYGON, POLYGON, TIN, TRIANGLE};
-use crate::{Member, Part, Point, Sheet, Triangle};
+use crate::{Member, Part, Point, Ring, Sheet, Triangle};
 
 /// A geometry at or below a further member.
 #[derive(Clone)]
@@ -34,16 +35,7 @@ impl Draft {
 
     /// The bytes with the places of their fields.
     pub fn encode(&self, dice: &mut Dice) -> Encoded {
-        let mut encoder = Encoder::new(dice);
-        encoder.header(COLLECTION, 1 + self.members.len());
-        encoder.header(TIN, self.pieces.len());
-        for &[a, b, c] in &self.pieces {
-            let kind = encoder.piece_kind();
-            let little = encoder.header(kind, 1);
-            encoder.ring(little, &[a, b, c, a]);
-        }
-        self.members.iter().for_each(|member| encoder.shape(member));
-        encoder.encoded
+        Style::new(dice).sheet(self).encode()
     }
 }
 
@@ -64,129 +56,75 @@ pub fn shape(dice: &mut Dice, mut member: Member, depth: u32) -> Shape {
     Shape::Collection(shapes)
 }
 
-/// The kinds of fields.
-#[derive(Clone, Copy, PartialEq)]
-pub enum Field {
-    Order,
-    Kind,
-    Count,
-    Point,
-    LastPoint,
-}
-
-/// Where a field stands, and in which byte order.
-#[derive(Clone, Copy)]
-pub struct Mark {
-    pub field: Field,
-    pub place: usize,
-    pub little: bool,
-}
-
-/// Bytes with the places of their fields.
-pub struct Encoded {
-    pub bytes: Vec<u8>,
-    pub marks: Vec<Mark>,
-}
-
-/// A u32 in one of the byte orders.
-pub fn number_bytes(number: u32, little: bool) -> [u8; 4] {
-    if little {
-        number.to_le_bytes()
-    } else {
-        number.to_be_bytes()
-    }
-}
-
-/// A double in one of the byte orders.
-pub fn double_bytes(double: f64, little: bool) -> [u8; 8] {
-    if little {
-        double.to_le_bytes()
-    } else {
-        double.to_be_bytes()
-    }
-}
-
 /// The style of the bytes: how many in a hundred headers are little-endian, pieces Triangles, and zeros negative.
-struct Encoder<'a> {
+struct Style<'a> {
     dice: &'a mut Dice,
     little: usize,
     triangles: usize,
     minus_zero: usize,
-    encoded: Encoded,
 }
 
-impl Encoder<'_> {
-    fn new(dice: &mut Dice) -> Encoder<'_> {
+impl Style<'_> {
+    fn new(dice: &mut Dice) -> Style<'_> {
         let little = dice.pick(&[100, 100, 50, 0, 90]);
         let triangles = dice.pick(&[100, 100, 50, 0]);
         let minus_zero = dice.pick(&[0, 0, 30, 100]);
-        Encoder { dice, little, triangles, minus_zero, encoded: Encoded { bytes: Vec::new(), marks: Vec::new() } }
+        Style { dice, little, triangles, minus_zero }
     }
 
-    fn piece_kind(&mut self) -> u32 {
-        if self.dice.chance(self.triangles) {
-            TRIANGLE
-        } else {
-            POLYGON
-        }
+    fn sheet(&mut self, draft: &Draft) -> Geometry {
+        let little = self.order();
+        let mut members = vec![self.table(&draft.pieces)];
+        members.extend(draft.members.iter().map(|member| self.shape(member)));
+        Geometry::holding(COLLECTION, members).ordered(little)
     }
 
-    fn mark(&mut self, field: Field, little: bool) {
-        let place = self.encoded.bytes.len();
-        self.encoded.marks.push(Mark { field, place, little });
+    fn order(&mut self) -> bool {
+        self.dice.chance(self.little)
     }
 
-    /// A byte order, which is answered, a type and a count.
-    fn header(&mut self, kind: u32, count: usize) -> bool {
-        let little = self.dice.chance(self.little);
-        self.mark(Field::Order, little);
-        self.encoded.bytes.push(u8::from(little));
-        self.mark(Field::Kind, little);
-        self.encoded.bytes.extend(number_bytes(kind, little));
-        self.count(count, little);
-        little
+    fn table(&mut self, pieces: &[Triangle]) -> Geometry {
+        let little = self.order();
+        let pieces = pieces.iter().map(|piece| self.piece(piece)).collect();
+        Geometry::holding(TIN, pieces).ordered(little)
     }
 
-    fn count(&mut self, count: usize, little: bool) {
-        self.mark(Field::Count, little);
-        self.encoded.bytes.extend(number_bytes(count as u32, little));
+    fn piece(&mut self, &[a, b, c]: &Triangle) -> Geometry {
+        let kind = if self.dice.chance(self.triangles) { TRIANGLE } else { POLYGON };
+        self.ringed(kind, &[vec![a, b, c, a]])
     }
 
-    fn ring(&mut self, little: bool, ring: &[Point]) {
-        self.count(ring.len(), little);
-        for (place, point) in ring.iter().enumerate() {
-            let last = place + 1 == ring.len();
-            self.mark(if last { Field::LastPoint } else { Field::Point }, little);
-            self.coordinate(point.x, little);
-            self.coordinate(point.y, little);
-        }
+    fn ringed(&mut self, kind: u32, rings: &[Ring]) -> Geometry {
+        let little = self.order();
+        let rings = rings.iter().map(|ring| self.ring(ring)).collect();
+        Geometry::ringed(kind, rings).ordered(little)
     }
 
-    fn coordinate(&mut self, number: i64, little: bool) {
+    fn ring(&mut self, ring: &[Point]) -> Vec<Doubles> {
+        ring.iter().map(|point| (self.coordinate(point.x), self.coordinate(point.y))).collect()
+    }
+
+    fn coordinate(&mut self, number: i64) -> f64 {
         let minus = number == 0 && self.dice.chance(self.minus_zero);
-        let double = if minus { -0.0 } else { number as f64 };
-        self.encoded.bytes.extend(double_bytes(double, little));
-    }
-
-    fn shape(&mut self, shape: &Shape) {
-        match shape {
-            Shape::Polygon(part) => self.part(part),
-            Shape::Multi(parts) => {
-                self.header(MULTI_POLYGON, parts.len());
-                parts.iter().for_each(|part| self.part(part));
-            }
-            Shape::Collection(shapes) => self.shapes(COLLECTION, shapes),
-            Shape::Strange(kind, shapes) => self.shapes(*kind, shapes),
+        if minus {
+            -0.0
+        } else {
+            number as f64
         }
     }
 
-    fn shapes(&mut self, kind: u32, shapes: &[Shape]) {
-        self.header(kind, shapes.len());
-        shapes.iter().for_each(|shape| self.shape(shape));
+    fn shape(&mut self, shape: &Shape) -> Geometry {
+        match shape {
+            Shape::Polygon(part) => self.ringed(POLYGON, part),
+            Shape::Multi(parts) => self.holding(MULTI_POLYGON, parts, |style, part| style.ringed(POLYGON, part)),
+            Shape::Collection(shapes) => self.holding(COLLECTION, shapes, Style::shape),
+            Shape::Strange(kind, shapes) => self.holding(*kind, shapes, Style::shape),
+        }
     }
 
-    fn part(&mut self, part: &Part) {
-        let little = self.header(POLYGON, part.len());
-        part.iter().for_each(|ring| self.ring(little, ring));
+    fn holding<T>(&mut self, kind: u32, inner: &[T], made: impl Fn(&mut Self, &T) -> Geometry) -> Geometry {
+        let little = self.order();
+        let inner = inner.iter().map(|one| made(self, one)).collect();
+        Geometry::holding(kind, inner).ordered(little)
     }
 }

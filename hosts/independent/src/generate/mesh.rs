@@ -1,9 +1,9 @@
 //! Random triangulations of rectangles.
 
-use super::across;
 use super::dice::Dice;
 use crate::limits::COORDINATE;
-use crate::table::{corners, double_area, frame, sides};
+use crate::plane::{double_area, sides};
+use crate::table::{corners, frame};
 use crate::{Point, Side, Triangle};
 use std::collections::BTreeSet;
 
@@ -211,4 +211,10 @@ fn mix(dice: &mut Dice, triangles: &mut [Triangle]) {
 /// The triangles that share a side with this one.
 pub fn neighbours(triangles: &[Triangle], place: usize) -> Vec<usize> {
     sides(&triangles[place]).into_iter().filter_map(|side| across(triangles, side)).collect()
+}
+
+/// The place of the triangle with side vu, if there is one.
+pub fn across(triangles: &[Triangle], (u, v): Side) -> Option<usize> {
+    let has = |triangle: &Triangle| sides(triangle).contains(&(v, u));
+    triangles.iter().position(has)
 }

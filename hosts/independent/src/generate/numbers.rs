@@ -1,7 +1,8 @@
 //! Inputs for the writer.
 
 use super::dice::Dice;
-use super::{not_carried_sheet, sheet_points};
+use super::polygons::sheet_points;
+use super::sheets::not_carried_sheet;
 use crate::limits::COORDINATE;
 use crate::{Member, Point, Sheet};
 

@@ -1,9 +1,10 @@
 //! Polygons traced round random sets of triangles.
 
 use super::dice::Dice;
-use super::{mesh, point_count};
+use super::mesh;
 use crate::limits::{COORDINATE, SHEET_POINTS};
-use crate::table::{corners, double_area, sorted_sides};
+use crate::plane::double_area;
+use crate::table::{corners, sorted_sides};
 use crate::{Member, Point, Ring, Side, Triangle};
 
 /// Members for this table, all carried: gaps and overlaps of every kind, or a clean sheet.
@@ -303,4 +304,14 @@ fn group(dice: &mut Dice, rings: Vec<Ring>) -> Member {
         member.last_mut().unwrap().push(ring);
     }
     member
+}
+
+/// The points of a member, closing points included.
+fn point_count(member: &Member) -> usize {
+    member.iter().flatten().map(Vec::len).sum()
+}
+
+/// The points of all members.
+pub fn sheet_points(polygons: &[Member]) -> usize {
+    polygons.iter().map(point_count).sum()
 }

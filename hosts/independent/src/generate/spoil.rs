@@ -1,7 +1,8 @@
 //! Members that aren't carried, and tables that break a rule.
 
 use super::dice::Dice;
-use super::{across, mesh, polygons};
+use super::mesh::{self, across};
+use super::polygons;
 use crate::limits::COORDINATE;
 use crate::table::{corners, frame};
 use crate::{Member, Point, Ring, Sheet, Triangle};

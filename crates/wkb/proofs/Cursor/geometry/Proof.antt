@@ -10,9 +10,9 @@ use lib.Dec.{ltb, eqb}
 use lib.ListN.{length, getD}
 use denote.Ref.{now}
 use Rattle.wkb.specs.declared.Cursor.{Cursor}
-use Rattle.little.specs.Ordered.{remains, wordAt}
-use Rattle.kinds.specs.declared.Slot.{Slot}
-use Rattle.types.specs.Types.{crowdedAt, deepAt, faultAt}
+use Rattle.lent_little.specs.Ordered.{remains, wordAt}
+use Rattle.wkb_kinds.specs.declared.Slot.{Slot}
+use Rattle.wkb_kinds.specs.Types.{crowdedAt, deepAt, faultAt}
 use Rattle.wkb.specs.Steps.{geometryAt, slotOf, crowded, deep, kindFault, countFits}
 use Rattle.wkb.proofs.Steps.{count-some}
 use Rattle.wkb.proofs.Cursor.geometry.Statement.{statement}

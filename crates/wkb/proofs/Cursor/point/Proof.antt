@@ -8,7 +8,7 @@ use Prim.Native.Nat.{ℕ, _+_, _≤_}
 use native.Mathlib.Omega.{arith}
 use lib.ListN.{length}
 use denote.Ref.{now}
-use Rattle.little.specs.Ordered.{remains}
+use Rattle.lent_little.specs.Ordered.{remains}
 use Rattle.wkb.specs.Steps.{pointAt}
 use Rattle.wkb.proofs.Cursor.point.Statement.{statement}
 use Rattle.wkb.proofs.Cursor.point.Tie as tie

@@ -5,6 +5,12 @@ use independent::bridge::{Call, Function, Room};
 use independent::entries::{fit, Entry, Input, Success};
 use independent::{reading, Refusal};
 
+/// A case that is longer has one room and one polygon asked for: some of them take the library a second.
+const LONG: usize = 20_000;
+
+/// What an entry answers.
+type Answer = Result<Success, Refusal>;
+
 /// What is called.
 pub struct Calls {
     /// The inputs.
@@ -18,22 +24,34 @@ impl Calls {
     pub fn add(&self, place: u64, calls: &mut Vec<Call>, frames: &mut Vec<u8>) {
         let (sheet, numbers) = self.inputs(place);
         let (judged, written) = (Input::new(&sheet), Input::new(&numbers));
-        for (purpose, function) in self.functions(place, &sheet).into_iter().enumerate() {
+        let every = matches!(self.inputs, Inputs::Cases(_)) && sheet.len() < LONG;
+        for (purpose, function) in self.functions(place, &sheet, every).into_iter().enumerate() {
             let writes = function == Function::Entry(Entry::Write);
             let (input, bytes) = if writes { (&written, &numbers) } else { (&judged, &sheet) };
             let answer = function.whole(input);
-            let (room, expected) = if self.wrapped { (Room::Own, answer) } else { with_room(place, purpose, answer) };
-            let call = Call { input: self.inputs.name(place), function, room, expected };
-            frames.extend(call.frame(bytes));
-            calls.push(call);
+            for (room, expected) in self.with_rooms(mixed(place, purpose as u64), every, answer) {
+                let call = Call { input: self.inputs.name(place), function, room, expected };
+                frames.extend(call.frame(bytes));
+                calls.push(call);
+            }
         }
     }
 
+    /// The rooms of a call, every kind or one, each with the answer that is right with it; or a wrapper's own.
+    fn with_rooms(&self, number: u64, every: bool, answer: Answer) -> Vec<(Room, Answer)> {
+        if self.wrapped {
+            return vec![(Room::Own, answer)];
+        }
+        let rooms = if every { every_room(&answer).to_vec() } else { vec![room(number, &answer)] };
+        rooms.into_iter().map(|room| (Room::Lent(room), fit(answer.clone(), room))).collect()
+    }
+
     /// The functions that are called on a sheet.
-    fn functions(&self, place: u64, sheet: &[u8]) -> Vec<Function> {
+    fn functions(&self, place: u64, sheet: &[u8], every: bool) -> Vec<Function> {
         let polygons = reading::read(sheet).map_or(2, |sheet| sheet.polygons.len() as u32);
         let mut entries = vec![Entry::Numbers, Entry::Write, Entry::OwnerSets, Entry::Owners, Entry::Listing];
-        entries.extend(asked(&self.inputs, place, polygons).into_iter().map(Entry::Boundary));
+        let every = every || matches!(self.inputs, Inputs::Largest(_));
+        entries.extend(asked(place, polygons, every).into_iter().map(Entry::Boundary));
         let verdict = self.wrapped.then_some(Function::Verdict);
         entries.into_iter().map(Function::Entry).chain(verdict).collect()
     }
@@ -49,12 +67,6 @@ impl Calls {
     }
 }
 
-/// The number of lent bytes for this call, and the answer with so many.
-fn with_room(place: u64, purpose: usize, answer: Result<Success, Refusal>) -> (Room, Result<Success, Refusal>) {
-    let room = room(mixed(place, purpose as u64), &answer);
-    (Room::Lent(room), fit(answer, room))
-}
-
 /// A number that a place and a purpose fix.
 fn mixed(place: u64, purpose: u64) -> u64 {
     let mixed = (place ^ (purpose << 56)).wrapping_mul(0x9e37_79b9_7f4a_7c15);
@@ -62,11 +74,11 @@ fn mixed(place: u64, purpose: u64) -> u64 {
     mixed ^ (mixed >> 32)
 }
 
-/// The polygons asked for. On one of the largest sheets: the first and the last of the sheet's, and all numbers that it
-/// hasn't and that a wrapper might take for one that it has. On another, one number: mostly of the sheet's, else of those.
-fn asked(inputs: &Inputs, place: u64, polygons: u32) -> Vec<u32> {
+/// The polygons asked for: the first and the last of the sheet's, and all numbers that it hasn't and that a wrapper might
+/// take for one that it has; or one number, mostly of the sheet's, else of those.
+fn asked(place: u64, polygons: u32, every: bool) -> Vec<u32> {
     let others = [0, polygons + 1, 65, 257, 1 << 31, (1 << 31) + 1, u32::MAX];
-    if matches!(inputs, Inputs::Largest(_)) {
+    if every {
         return [1, polygons].into_iter().chain(others).collect();
     }
     let number = mixed(place, 100);
@@ -74,14 +86,20 @@ fn asked(inputs: &Inputs, place: u64, polygons: u32) -> Vec<u32> {
     vec![others.get(number as usize % 24).copied().unwrap_or(one)]
 }
 
-/// The number of lent bytes: exact, one short, none, eight more, or 100,000.
-fn room(number: u64, answer: &Result<Success, Refusal>) -> usize {
+/// Numbers of lent bytes: exact, one short, none, and eight more.
+fn every_room(answer: &Answer) -> [usize; 4] {
     let length = answer.as_ref().map_or(16, |success| success.bytes.len());
+    [length, length.saturating_sub(1), 0, length + 8]
+}
+
+/// One of these, mostly the exact one, or 100,000.
+fn room(number: u64, answer: &Answer) -> usize {
+    let [exact, short, none, more] = every_room(answer);
     match number % 128 {
-        0..=55 => length,
-        56..=71 => length.saturating_sub(1),
-        72..=79 => 0,
-        80..=126 => length + 8,
+        0..=55 => exact,
+        56..=71 => short,
+        72..=79 => none,
+        80..=126 => more,
         _ => 100_000,
     }
 }

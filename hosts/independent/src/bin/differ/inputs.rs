@@ -1,5 +1,6 @@
 //! The inputs to compare on.
 
+use independent::cases::{all, fields};
 use independent::entries::{whole, Entry};
 use independent::generate::{extreme, generate, generate_numbers};
 
@@ -9,6 +10,8 @@ pub enum Inputs {
     Seeds(u64, u64),
     /// So many of the largest sheets, of each kind in turn.
     Largest(u64),
+    /// The cases made by hand, and a sheet spoiled at each field, by name.
+    Cases(Vec<(String, Vec<u8>)>),
     /// Sheets, and all that one truncation or one changed byte makes of them.
     Changes(Vec<Vec<u8>>),
 }
@@ -21,6 +24,10 @@ impl Inputs {
             ["seeds", count] => Some(Inputs::Seeds(count.parse().ok()?, 0)),
             ["seeds", count, first] => Some(Inputs::Seeds(count.parse().ok()?, first.parse().ok()?)),
             ["largest", count] => Some(Inputs::Largest(count.parse().ok()?)),
+            ["cases"] => {
+                let cases = all().into_iter().map(|case| (case.name, case.input));
+                Some(Inputs::Cases(cases.chain(fields::spoiled()).collect()))
+            }
             ["changes", ref files @ ..] => {
                 let sheets: Result<_, _> = files.iter().map(std::fs::read).collect();
                 Some(Inputs::Changes(sheets.ok()?))
@@ -33,6 +40,7 @@ impl Inputs {
     pub fn count(&self) -> u64 {
         match self {
             Inputs::Seeds(count, _) | Inputs::Largest(count) => *count,
+            Inputs::Cases(cases) => cases.len() as u64,
             Inputs::Changes(sheets) => sheets.iter().map(|sheet| changes(sheet)).sum(),
         }
     }
@@ -42,6 +50,7 @@ impl Inputs {
         match self {
             Inputs::Seeds(_, first) => format!("seed {}", first + place),
             Inputs::Largest(_) => format!("largest sheet {place}"),
+            Inputs::Cases(cases) => format!("\"{}\"", cases[place as usize].0),
             Inputs::Changes(_) => format!("change {place}"),
         }
     }
@@ -51,6 +60,7 @@ impl Inputs {
         match self {
             Inputs::Seeds(_, first) => generate(first + place),
             Inputs::Largest(_) => extreme(place),
+            Inputs::Cases(cases) => cases[place as usize].1.clone(),
             Inputs::Changes(sheets) => {
                 let (sheet, place) = changed_sheet(sheets, place);
                 changed(sheet, place)

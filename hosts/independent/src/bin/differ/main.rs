@@ -2,6 +2,7 @@
 //! independent answers. INPUTS is one of
 //!   seeds COUNT [FIRST]   so many generated inputs, by seed
 //!   largest COUNT         so many of the largest sheets, of each kind in turn
+//!   cases                 the cases made by hand, and a sheet spoiled at each field; the short ones with every room
 //!   changes FILE..        each sheet, every truncation of it and every change of one of its bytes
 //! BRIDGE is a program, with its arguments if there are blanks; one is started for each core. Prints what was answered
 //! by code, each difference, and last `N passed, M failed`; the exit status is 1 if any failed.
@@ -25,7 +26,7 @@ const BATCH: usize = 16;
 
 fn main() -> ExitCode {
     let words: Vec<String> = std::env::args().skip(1).collect();
-    let usage = "usage: differ [--wrapped] BRIDGE seeds COUNT [FIRST] | largest COUNT | changes FILE..";
+    let usage = "usage: differ [--wrapped] BRIDGE seeds COUNT [FIRST] | largest COUNT | cases | changes FILE..";
     let wrapped = words.first().is_some_and(|word| word == "--wrapped");
     let (bridge, rest) = words[usize::from(wrapped)..].split_first().expect(usage);
     let calls = Calls { inputs: Inputs::named(rest).expect(usage), wrapped };

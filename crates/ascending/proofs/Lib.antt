@@ -1,2 +1,0 @@
--- The laws of ascending numbers.
-pub mod Ascending

@@ -1,0 +1,135 @@
+-- `judged_sets::polygons` meets its contract. The invariant: of the first k polygons the sets are found and marked, and the others stand at the place (Following).
+-- Assumes nothing.
+use mathlib.Core.Path.{_≡_, refl, sym, _∙_, ap, subst}
+use mathlib.Core.List.{List}
+use Prim.Native.Nat.{ℕ, _-_, _<_}
+use native.Mathlib.Omega.{arith}
+use denote.Ref.{now}
+use lib.IntN.{ℤ}
+use lib.ListN.{length, replicate, length-replicate}
+use borrow.Author.Needs.{needs}
+use Rattle.plane.specs.Members.{Member}
+use Rattle.table.specs.Sides.{trianglesOf}
+use Rattle.owners_judge.specs.Preparing.{Prepared}
+use Rattle.judged_sets.specs.Owning.{PolygonsAt}
+use Rattle.judged_sets.proofs.Following.{Following, polygons-count, following-none, following-marks, following-next, following-refused, following-more, following-done, refused-owned}
+use Rattle.judged_sets.proofs.polygons.Statement.{statement}
+use Rattle.judged_sets.proofs.polygons.Tie as tie
+
+abbrev Inv-loop : tie.InvT-loop
+Inv-loop numbers first ordered index opposite order counts₀ labels₀ sets₀ from₀ to₀ n at₀ k₀ counts labels sets from to at k =
+    (length from ≡ 4096) × (length to ≡ 4096) × (length counts ≡ length counts₀) × (length labels ≡ length labels₀) × (length sets ≡ length sets₀)
+    × ((keys : List ℕ) (ms : List Member) (rest : List ℤ) → Prepared keys ordered index opposite order → length counts₀ ≡ length keys → length labels₀ ≡ length (trianglesOf keys) → PolygonsAt numbers first ms rest
+    → Following (trianglesOf keys) numbers ms rest at k sets)
+
+abbrev μ-loop : tie.MeasureT-loop
+μ-loop numbers first ordered index opposite order counts₀ labels₀ sets₀ from₀ to₀ n at₀ k₀ counts labels sets from to at k = n - k
+
+-- ---- places: the entry of the function, the turn of the loop, and in it the call of `judge_at`
+abbrev start : tie.After-shared-slice-known6 Inv-loop μ-loop → tie.Start Inv-loop μ-loop
+start c = c .before .before .before .before .before .before .before .before .before
+
+abbrev turn : tie.After-judge-at Inv-loop μ-loop → tie.In-loop Inv-loop μ-loop
+turn c = c .before .before .before .before .before
+
+abbrev judged : tie.After-slice-known5 Inv-loop μ-loop → tie.After-judge-at Inv-loop μ-loop
+judged c = c .before .before .before .before .before .before
+
+abbrev marked : tie.After-slice-known6 Inv-loop μ-loop → tie.After-mark-arg2 Inv-loop μ-loop
+marked c = c .before .before .before
+
+abbrev carried : tie.After-mark-arg2 Inv-loop μ-loop → tie.After-enum-told2 Inv-loop μ-loop
+carried c = c .before .before
+
+abbrev entry : tie.In-loop Inv-loop μ-loop → tie.Start Inv-loop μ-loop
+entry c = start (c .before .before)
+
+-- In a turn of the loop one more polygon is left, of at most 64.
+more : (c : tie.In-loop Inv-loop μ-loop) {ms : List Member} {rest : List ℤ} → PolygonsAt (now (entry c .args .numbers)) (entry c .args .first) ms rest → c .before .loop .k < length ms
+more c s = omega (arith, c .loop-test .taken, polygons-count s .1)
+
+few : (c : tie.In-loop Inv-loop μ-loop) → c .before .loop .k < 64
+few c = let s = entry c .pre .2 .2 in omega (arith, more c s, s .many)
+
+-- The sets found so far, by the lists and polygons that the caller tells of.
+following : (c : tie.In-loop Inv-loop μ-loop) → let l = c .before .loop in let p = entry c .pre in Following (trianglesOf (p .0 .0)) (now (entry c .args .numbers)) (p .2 .0) (p .2 .1) (l .at) (l .k) (l .sets)
+following c = let p = entry c .pre in c .before .loop .inv .5 (p .0 .0) (p .2 .0) (p .2 .1) (p .0 .1) (p .0 .2) (p .0 .3) (p .2 .2)
+
+-- What `judge_at` leaves: as many counts and labels as were lent.
+counts-kept : (c : tie.After-judge-at Inv-loop μ-loop) → length (c .judge-at .last .1 .1 .1 .1 .1 .1 .1 .1 .0) ≡ length (now (entry (turn c) .args .counts))
+counts-kept c = c .judge-at .kept .1 .1 .1 .1 .1 .1 .1 .1 .0 ∙ turn c .before .loop .inv .2
+
+labels-kept : (c : tie.After-judge-at Inv-loop μ-loop) → length (c .judge-at .last .1 .1 .1 .1 .1 .1 .1 .1 .1 .0) ≡ length (now (entry (turn c) .args .labels))
+labels-kept c = c .judge-at .kept .1 .1 .1 .1 .1 .1 .1 .1 .1 .0 ∙ turn c .before .loop .inv .3
+
+loop-holds : tie.Need-loop-holds Inv-loop μ-loop
+loop-holds c =
+    let p = start c .pre in
+    (length-replicate {A = ℕ} 4096 0, length-replicate {A = ℕ} 4096 0, refl, refl, refl, λ keys ms rest w q n s. following-none s (p .4 ∙ ap (λ j. replicate j 0) (p .3 ∙ n)))
+
+judge-at-requires : tie.Need-judge-at-requires Inv-loop μ-loop
+judge-at-requires c κs =
+    let d = c .before .before .before .before in
+    let p = entry d .pre in
+    let i = d .before .loop .inv in
+    ((p .0 .0, p .0 .1, i .2 ∙ p .0 .2, i .3 ∙ p .0 .3), p .1, following-next (following d) (more d (p .2 .2)), i .0, i .1)
+
+returns : tie.Need-returns Inv-loop μ-loop
+returns c = λ keys ms rest w q n s.
+    let j = judged (c .before .before) in
+    let l = turn j .before .loop in
+    refused-owned (length (trianglesOf keys)) (l .k) (l .sets)
+    (following-refused (l .inv .5 keys ms rest w q n s) (more (turn j) s) (λ m b. j .judge-at .ensures keys m b w (l .inv .2 ∙ q) (l .inv .3 ∙ n)) (c .enum-told .given .1))
+
+mark-requires : tie.Need-mark-requires Inv-loop μ-loop
+mark-requires c κs =
+    let j = judged (carried c .before .before) in
+    let x = following-marks (following (turn j)) in
+    (labels-kept j ∙ entry (turn j) .pre .0 .3 ∙ sym (x .0), omega (arith, few (turn j)), x .1)
+
+loop-again : tie.Need-loop-again Inv-loop μ-loop
+loop-again c =
+    let d = carried (marked c) in
+    let j = judged (d .before .before) in
+    let l = turn j .before .loop in
+    let k = j .judge-at .kept .1 .1 .1 .1 .1 .1 in
+    let m = c .before .before .mark in (
+      k .0 ∙ l .inv .0,
+      k .1 .0 ∙ l .inv .1,
+      counts-kept j,
+      labels-kept j,
+      m .ensures .1 ∙ l .inv .4,
+      λ keys ms rest w q n s.
+          subst (Following (trianglesOf keys) _ ms rest _ _) (sym (m .ensures .0))
+          (following-more (l .inv .5 keys ms rest w q n s) (more (turn j) s) (λ m b. j .judge-at .ensures keys m b w (l .inv .2 ∙ q) (l .inv .3 ∙ n)) (d .enum-told2 .given .1) (labels-kept j ∙ n)),
+    )
+
+pub polygons-spec : {M : Type 1} → statement M
+polygons-spec =
+    tie.close
+    (tie.spec
+    Inv-loop
+    μ-loop
+    (λ c. let h = polygons-count (c .before .before .before .before .before .before .before .before .pre .2 .2) in omega arith)
+    (λ c. polygons-count (start c .pre .2 .2) .0)
+    (λ c. let h = polygons-count (start c .pre .2 .2) in omega arith)
+    (λ c. let h = polygons-count (start c .pre .2 .2) in omega arith)
+    loop-holds
+    (λ c. sym (c .before .before .loop .inv .0))
+    (λ c. sym (c .before .before .before .loop .inv .1))
+    judge-at-requires
+    (λ c. search needs)
+    (λ c. omega (arith, few (turn (judged (c .before .before)))))
+    (λ c. counts-kept (judged (c .before .before)))
+    (λ c. labels-kept (judged (c .before .before)))
+    (λ c. turn (judged (c .before .before)) .before .loop .inv .4)
+    returns
+    (λ c. search needs)
+    mark-requires
+    (λ c. omega (arith, few (turn (judged (carried (marked c) .before .before)))))
+    (λ c. omega (arith, turn (judged (carried (marked c) .before .before)) .loop-test .taken))
+    loop-again
+    (λ c. c .before .loop .inv .2)
+    (λ c. c .before .loop .inv .3)
+    (λ c. c .before .loop .inv .4)
+    (λ c. λ keys ms rest w q n s. following-done (c .before .loop .inv .5 keys ms rest w q n s) (omega (arith, c .loop-test .left, polygons-count s .1))))

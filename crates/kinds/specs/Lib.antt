@@ -1,2 +1,0 @@
--- The kinds of geometry, and which geometry stands at a place.
-pub mod Kinds

@@ -1,2 +1,0 @@
--- The laws of labels.
-pub mod Forcing

@@ -1,0 +1,58 @@
+-- The lines of the listing by the figures of the sheet: an owner set, an owner number and a double area for each triangle.
+use mathlib.Core.Path.{_≡_}
+use mathlib.Core.Bool.{Bool, true, false, cond}
+use mathlib.Core.List.{List, map, _++_}
+use Prim.Native.Nat.{ℕ, _+_, _≤_}
+use lib.Dec.{eqb}
+use lib.IntN.{ℤ, pos}
+use lib.ListN.{length}
+use Rattle.whole.specs.Sums.{All}
+use Rattle.table.specs.Sets.{chosen}
+use Rattle.repair_regions.specs.Regions.{from}
+use Rattle.lent_text.specs.Text.{lineOf}
+use Rattle.listing_figures.specs.declared.Figure.{Figure}
+use Rattle.listing_figures.specs.declared.Figure.the-variants.{Gaps, Overlaps, Before, After}
+use Rattle.listing_figures.specs.Figures.{marksOf, total}
+use Rattle.listing_lines.specs.Lines.{sheetWord, polygonWord, gapWord, overlapWord, afterWord, refusedWord, cleanLine, repairLine, numbered}
+
+-- The figure of polygon k, after repair or before.
+abbrev pub figureOf : Bool → ℕ → Figure
+figureOf true k = After k
+figureOf false k = Before k
+
+-- The double area of polygon k, by the figure.
+abbrev pub areaBy : Bool → List ℕ → List ℕ → List ℕ → ℕ → ℤ
+areaBy after l owners areas k = pos (total (chosen areas (marksOf (figureOf after k) l owners)))
+
+-- A line for the triangles of a figure.
+abbrev pub lineBy : List ℕ → Figure → List ℕ → List ℕ → List ℕ → List ℕ
+lineBy word figure l owners areas = lineOf word (pos (length (chosen areas (marksOf figure l owners)))) (pos (total (chosen areas (marksOf figure l owners))))
+
+-- The verdict is clean where there is neither a gap nor an overlap.
+abbrev pub verdictBy : List ℕ → List ℕ → List ℕ → List ℕ
+verdictBy l owners areas = cond (eqb (length (chosen areas (marksOf Gaps l owners)) + length (chosen areas (marksOf Overlaps l owners))) 0) cleanLine repairLine
+
+-- The lines of a sheet with so many polygons up to the verdict, by its figures.
+abbrev pub headBy : ℕ → List ℕ → List ℕ → List ℕ → List ℕ
+headBy polygons l owners areas =
+    lineOf sheetWord (pos (length areas)) (pos polygons)
+    ++ numbered polygonWord 1 (map (areaBy false l owners areas) (from 1 polygons))
+    ++ lineBy gapWord Gaps l owners areas
+    ++ lineBy overlapWord Overlaps l owners areas
+    ++ verdictBy l owners areas
+
+-- The lines behind the verdict: what each polygon owns after repair, or that repair is refused.
+abbrev pub afterBy : Bool → ℕ → List ℕ → List ℕ → List ℕ → List ℕ
+afterBy true polygons l owners areas = numbered afterWord 1 (map (areaBy true l owners areas) (from 1 polygons))
+afterBy false polygons l owners areas = lineOf refusedWord (pos 30) (pos 0)
+
+-- All of its lines.
+abbrev pub linesBy : Bool → ℕ → List ℕ → List ℕ → List ℕ → List ℕ
+linesBy done polygons l owners areas = headBy polygons l owners areas ++ afterBy done polygons l owners areas
+
+-- The lists of a sheet's figures: an owner set, an owner number and a double area for each triangle.
+pub record Figures (l owners areas : List ℕ) : Type 0 where
+  pub each-set : length l ≡ length areas
+  pub each-owner : length owners ≡ length areas
+  pub few : length areas ≤ 1024
+  pub small : All (λ a. a ≤ 800_000_000_000_000) areas

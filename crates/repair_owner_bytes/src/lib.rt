@@ -1,0 +1,23 @@
+// The number of each triangle after repair, written over lent bytes.
+ghost use Prim.Native.Nat.{_≤_};
+ghost use lib.ListN.{length};
+ghost use Rattle.lent.specs.Answered.{Answered};
+ghost use Rattle.repair_regions.specs.Spreading.{Paired};
+ghost use Rattle.repair_answers.specs.Held.{ownersOutcome};
+
+// One byte per triangle in table order, its number after repair; 30 where repair can't be done.
+pub fn owners(opposite: &[usize], sets: &[u64], out: &mut [u8]) -> u64
+    requires { ⌜ Paired (now opposite) (length (now sets)) × (length (now sets) ≤ 1024) ⌝ }
+    ensures { λ r. ⌜ Answered (ownersOutcome (now (opposite .entry)) (now (sets .entry))) (now (out .entry)) r (now (out .exit)) ⌝ }
+{
+    let n = sets.len();
+    let mut owners = [0u8; 1024];
+    if !repair::repair(opposite, sets, &mut owners[..n]) {
+        return 30;
+    }
+    if out.len() < n {
+        return 40;
+    }
+    lent_text::put_word(out, 0, &owners[..n]);
+    n as u64 * 256
+}

@@ -1,0 +1,48 @@
+-- `repair_sides::is_bound` meets its contract, by whose the side's own triangle is, and whether there is one across. Assumes nothing.
+use Prim.Native.Nat.{_-_}
+use native.Mathlib.Omega.{arith}
+use borrow.Author.Needs.{needs}
+use denote.Ref.{now}
+use lib.ListN.{getD}
+use Rattle.repair_sides.proofs.Laying.{not-own, none-across, some-across}
+use Rattle.repair_sides.proofs.is_bound.Statement.{statement}
+use Rattle.repair_sides.proofs.is_bound.Tie as tie
+
+shared-slice-read-if1 : tie.Need-shared-slice-read-if1
+shared-slice-read-if1 c = search needs
+
+returns : tie.Need-returns
+returns c = let s = c .before .before .args in not-own (now (s .opposite)) (now (s .owners)) (s .polygon) (s .k) (c .if1 .taken)
+
+mul-o : tie.Need-mul-o
+mul-o c = search needs
+
+shared-slice-read-o : tie.Need-shared-slice-read-o
+shared-slice-read-o c = search needs
+
+returns-2 : tie.Need-returns-2
+returns-2 c = let s = c .before .before .before .before .args in none-across (now (s .opposite)) (now (s .owners)) (s .polygon) (s .k) (c .before .before .if1 .left) (c .if2 .taken)
+
+sub-result : tie.Need-sub-result
+sub-result c = search needs
+
+shared-slice-read-result : tie.Need-shared-slice-read-result
+shared-slice-read-result c =
+    let s = c .before .before .before .before .before in
+    omega (arith, s .pre .0 .there (s .args .k) (getD (now (s .args .opposite)) (s .args .k) 0 - 1) (omega (arith, c .before .if2 .left)), s .pre .0 .sides)
+
+returns-3 : tie.Need-returns-3
+returns-3 c = let s = c .before .before .before .before .before .args in some-across (now (s .opposite)) (now (s .owners)) (s .polygon) (s .k) (c .before .before .before .if1 .left) (λ e. c .before .if2 .left e)
+
+pub is-bound-spec : {M : Type 1} → statement M
+is-bound-spec =
+    tie.close
+    (tie.spec
+    shared-slice-read-if1
+    returns
+    mul-o
+    shared-slice-read-o
+    returns-2
+    sub-result
+    shared-slice-read-result
+    returns-3)

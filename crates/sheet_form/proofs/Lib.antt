@@ -1,0 +1,2 @@
+-- The numbers form is a faithful code.
+pub mod Form

@@ -1,0 +1,1 @@
+// No code: a sheet in numbers, and its numbers form.

@@ -1,2 +1,0 @@
--- The laws of numbers moved up and laid down.
-pub mod Moves

@@ -1,0 +1,3 @@
+-- The laws of labels.
+pub mod Forcing
+pub mod Compared

@@ -1,2 +1,0 @@
--- Which types may stand where a geometry stands.
-pub mod Types

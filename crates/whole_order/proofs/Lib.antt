@@ -1,0 +1,3 @@
+-- The laws of ascending numbers.
+pub mod Ascending
+pub mod Moves

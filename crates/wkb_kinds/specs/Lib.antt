@@ -1,0 +1,3 @@
+-- The kinds of geometry, and which geometry stands at a place.
+pub mod Kinds
+pub mod Types

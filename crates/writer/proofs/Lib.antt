@@ -1,9 +1,0 @@
--- The laws that the writer's proofs cite.
-pub mod Numbers
-pub mod Goes
-pub mod Levels
-pub mod Emits
-pub mod Wholes
-pub mod Triangles
-pub mod Counts
-pub mod Gives

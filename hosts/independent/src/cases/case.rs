@@ -1,0 +1,69 @@
+//! A case: an input made by hand, its name, and what document 01 says of it.
+
+use crate::made::Geometry;
+
+/// An input made by hand.
+#[derive(Clone)]
+pub struct Case {
+    /// What it tries.
+    pub name: String,
+    /// Its bytes: a sheet, or the writer's numbers.
+    pub input: Vec<u8>,
+    /// What document 01 says of it.
+    pub outcome: Outcome,
+}
+
+/// What document 01 says of an input.
+#[derive(Clone, PartialEq, Eq, Debug)]
+pub enum Outcome {
+    /// It is read as a sheet.
+    Read,
+    /// Each triangle has these owners before repair, bit k - 1 standing for polygon k.
+    Sets(Vec<u64>),
+    /// Each triangle has this number after repair.
+    Repaired(Vec<u8>),
+    /// It is refused as a sheet, by this code and item.
+    Refused(u8, u64),
+    /// These numbers make up a sheet.
+    Written,
+    /// These numbers are refused: 42.
+    NotWritten,
+}
+
+impl Case {
+    /// Whether the input is a sheet's and not the writer's.
+    pub fn is_sheet(&self) -> bool {
+        !matches!(self.outcome, Outcome::Written | Outcome::NotWritten)
+    }
+}
+
+/// Cases as they are put together.
+#[derive(Default)]
+pub struct Cases(pub Vec<Case>);
+
+impl Cases {
+    /// Adds a case.
+    pub fn add(&mut self, name: impl Into<String>, input: impl Into<Vec<u8>>, outcome: Outcome) {
+        self.0.push(Case { name: name.into(), input: input.into(), outcome });
+    }
+
+    /// A sheet that is read.
+    pub fn read(&mut self, name: impl Into<String>, sheet: Geometry) {
+        self.add(name, sheet, Outcome::Read);
+    }
+
+    /// A sheet with these owners before repair.
+    pub fn sets(&mut self, name: impl Into<String>, sheet: Geometry, sets: &[u64]) {
+        self.add(name, sheet, Outcome::Sets(sets.to_vec()));
+    }
+
+    /// A sheet with these numbers after repair.
+    pub fn repaired(&mut self, name: impl Into<String>, sheet: Geometry, numbers: &[u8]) {
+        self.add(name, sheet, Outcome::Repaired(numbers.to_vec()));
+    }
+
+    /// A sheet that is refused.
+    pub fn refused(&mut self, name: impl Into<String>, sheet: impl Into<Vec<u8>>, (code, item): (u8, u64)) {
+        self.add(name, sheet, Outcome::Refused(code, item));
+    }
+}

@@ -1,0 +1,161 @@
+//! The calls that the program entries_try makes, as its frames, and the lines that it is to print.
+//!
+//! A frame is a byte for the entry (0 numbers, 1 write, 2 owner sets, 3 owners, 4 boundary, 5 listing), u32 length of the input,
+//! u32 number of lent bytes, and the input, little-endian; before a sheet that the boundary entry takes stands the polygon's
+//! number, a u32. A line has the packed answer, a blank, and a checksum of all lent bytes after the call, each 170 before it.
+//!
+//! The calls are few, chosen for what they try; `differ` makes those of all cases, on libsheets.a.
+
+use crate::cases::{self, Case};
+use crate::entries::{fit, packed, whole, Entry, Success};
+use crate::Refusal;
+use std::collections::BTreeMap;
+
+/// A case that is longer isn't stored.
+const LONGEST: usize = 1_000;
+/// How many cases of each code that an entry gives are stored, beside the examples. The writer's are short: all are.
+const OF_EACH_CODE: usize = 2;
+
+/// A call with so many lent bytes.
+struct Call {
+    entry: Entry,
+    input: Vec<u8>,
+    room: usize,
+}
+
+/// The calls: of each entry document 01's examples and the sheets of the folder examples/, the strip sheet with every room; and
+/// short cases of each code. The boundary entry is asked for polygon 1, and on the strip sheet for all others.
+fn calls() -> Vec<Call> {
+    let mut calls = Vec::new();
+    for entry in [Entry::Numbers, Entry::Write, Entry::OwnerSets, Entry::Owners, Entry::Boundary(1), Entry::Listing] {
+        for case in chosen(entry) {
+            calls.extend(with_rooms(entry, case));
+        }
+    }
+    let strip = cases::named("strip");
+    let asked = [0, 2, 3, 65, 257, 1 << 31, u32::MAX].map(Entry::Boundary);
+    calls.extend(asked.map(|entry| Call { entry, input: strip.clone(), room: 200 }));
+    calls
+}
+
+/// The cases of an entry: the examples, and short ones of each code.
+fn chosen(entry: Entry) -> Vec<Case> {
+    let writes = entry == Entry::Write;
+    let examples = cases::examples().into_iter().filter(|_| !writes);
+    let mut seen: BTreeMap<u8, usize> = BTreeMap::new();
+    let others = cases::all().into_iter().skip(cases::examples().len());
+    let fitting = others.filter(|case| case.is_sheet() != writes && case.input.len() <= LONGEST);
+    let first = fitting.filter(|case| {
+        let times = seen.entry(whole(entry, &case.input).map_or_else(|refusal| refusal.code, |_| 0)).or_default();
+        *times += 1;
+        writes || *times <= OF_EACH_CODE
+    });
+    examples.chain(first).collect()
+}
+
+/// The call with just the room that its answer needs, and with 100 bytes where it is refused. The strip sheet, and its numbers:
+/// also with one byte less, none, and nine more. Every refusal of an example: also with none.
+fn with_rooms(entry: Entry, Case { name, input, .. }: Case) -> Vec<Call> {
+    let rooms = match whole(entry, &input) {
+        Ok(Success { bytes, .. }) if name == "strip" || name == "the strip sheet's numbers" => {
+            vec![bytes.len(), bytes.len() - 1, 0, bytes.len() + 9]
+        }
+        Ok(Success { bytes, .. }) => vec![bytes.len()],
+        Err(_) if name.starts_with("example") => vec![100, 0],
+        Err(_) => vec![100],
+    };
+    rooms.into_iter().map(|room| Call { entry, input: input.clone(), room }).collect()
+}
+
+impl Call {
+    fn frame(&self) -> Vec<u8> {
+        let (number, asked): (u8, Option<u32>) = match self.entry {
+            Entry::Numbers => (0, None),
+            Entry::Write => (1, None),
+            Entry::OwnerSets => (2, None),
+            Entry::Owners => (3, None),
+            Entry::Boundary(asked) => (4, Some(asked)),
+            Entry::Listing => (5, None),
+        };
+        let asked = asked.map_or(Vec::new(), |asked| asked.to_le_bytes().to_vec());
+        let length = (asked.len() + self.input.len()) as u32;
+        let head = [&[number][..], &length.to_le_bytes(), &(self.room as u32).to_le_bytes()].concat();
+        [head, asked, self.input.clone()].concat()
+    }
+
+    fn answer(&self) -> Result<Success, Refusal> {
+        fit(whole(self.entry, &self.input), self.room)
+    }
+
+    fn line(&self) -> String {
+        let (packed, mut lent) = match self.answer() {
+            Ok(Success { item, bytes }) => (item * 256, bytes),
+            Err(refusal) => (packed(refusal), Vec::new()),
+        };
+        lent.resize(self.room, 170);
+        format!("{packed} {}\n", checksum(&lent))
+    }
+}
+
+/// The checksum of all the bytes, so that a change at any place shows.
+fn checksum(bytes: &[u8]) -> u64 {
+    bytes.iter().fold(0, |sum, byte| (sum * 31 + u64::from(*byte)) % 1_000_000_007)
+}
+
+/// The frames of all calls, and their lines.
+pub fn frames_and_lines() -> (Vec<u8>, Vec<u8>) {
+    let calls = calls();
+    let frames = calls.iter().flat_map(Call::frame).collect();
+    (frames, calls.iter().map(Call::line).collect::<String>().into_bytes())
+}
+
+#[cfg(test)]
+mod tests {
+    use super::*;
+    use std::collections::BTreeSet;
+
+    /// An entry's number in a frame, the code of its answer, and by how many bytes the room is larger than a success, if it is one.
+    fn tried() -> Vec<(u8, u8, Option<usize>)> {
+        let of = |call: Call| match call.answer() {
+            Ok(success) => (call.frame()[0], 0, Some(call.room - success.bytes.len())),
+            Err(refusal) => (call.frame()[0], refusal.code, None),
+        };
+        calls().into_iter().map(of).collect()
+    }
+
+    #[test]
+    fn every_code_of_every_entry_is_stored() {
+        let reading = [0, 1, 2, 3, 4, 5, 6, 7, 8, 40];
+        let judging = [&reading[..], &[10, 11, 12, 20]].concat();
+        let owners = [&judging[..], &[30]].concat();
+        let boundary = [&owners[..], &[41]].concat();
+        let wanted = [&reading[..], &[0, 40, 42], &judging, &owners, &boundary, &[0, 40]];
+        let stored: BTreeSet<(u8, u8)> = tried().into_iter().map(|(entry, code, _)| (entry, code)).collect();
+        let numbered = wanted.iter().enumerate();
+        let wanted = numbered.flat_map(|(entry, codes)| codes.iter().map(move |code| (entry as u8, *code)));
+        assert_eq!(stored, wanted.collect());
+    }
+
+    #[test]
+    fn every_room_of_every_entry_is_stored() {
+        for entry in 0..6 {
+            let calls: Vec<_> = tried().into_iter().filter(|tried| tried.0 == entry).collect();
+            assert!(calls.contains(&(entry, 0, Some(0))), "exact room for {entry}");
+            assert!(calls.contains(&(entry, 0, Some(9))), "lent bytes past the answer for {entry}");
+        }
+        let short = |call: &Call, less: fn(usize) -> usize| {
+            whole(call.entry, &call.input).is_ok_and(|success| call.room == less(success.bytes.len()))
+        };
+        let of = |less: fn(usize) -> usize| -> BTreeSet<u8> {
+            calls().iter().filter(|call| short(call, less)).map(|call| call.frame()[0]).collect()
+        };
+        assert_eq!((of(|length| length - 1), of(|_| 0)), ((0..6).collect(), (0..6).collect()));
+    }
+
+    #[test]
+    fn the_stored_input_is_small() {
+        let (frames, lines) = frames_and_lines();
+        assert!(frames.len() < 200_000, "{} bytes", frames.len());
+        assert!(lines.split(|byte| *byte == b'\n').count() > 200);
+    }
+}

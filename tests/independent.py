@@ -1,0 +1,25 @@
+"""The independent program, hosts/independent: what it says of sheets, and the sheets that it makes. It is built first, where that was not done since its last change."""
+import os
+import subprocess
+
+ROOT = os.path.dirname(os.path.dirname(os.path.abspath(__file__)))
+MANIFEST = os.path.join(ROOT, "hosts", "independent", "Cargo.toml")
+
+
+def run(program, *words):
+    """What one of its programs prints."""
+    command = ["cargo", "run", "--release", "--quiet", "--manifest-path", MANIFEST, "--bin", program, "--", *words]
+    given = {**os.environ, "CARGO_TARGET_DIR": os.path.join(ROOT, "target", "hosts", "cargo")}
+    return subprocess.run(command, env=given, check=True, stdout=subprocess.PIPE).stdout.decode("ascii")
+
+
+def answers(paths):
+    """For each file its verdict, 'clean', 'repair' or 'refused CODE ITEM', and the lines of its listing."""
+    printed = [answer.split("\n") for answer in run("answers", *paths).split("\n\n")[:-1]]
+    assert len(printed) == len(paths)
+    return [(verdict, listing) for verdict, *listing in printed]
+
+
+def cases(folder):
+    """Writes the sheets that were made by hand to the folder, by names that say what each tries."""
+    run("cases", folder)
