@@ -14,7 +14,7 @@ use Rattle.whole.proofs.Sums.{and-left, and-right, and-both, every-all}
 use Rattle.lent.specs.Answered.{refusal}
 use Rattle.sheet.proofs.Refusals.{Lawful}
 use Rattle.sheet.specs.Read.{refused as unreadable, readSheet}
-use Rattle.demands.specs.Refusals.{Row, alone, rows, stands, Listed}
+use Rattle.demands.specs.Refusals.{Row, alone, rows, inRow, Listed}
 use Rattle.demands.specs.Entries.{Entry, numbers, write, ownerSets, owners, boundary, listing, outcomeOf}
 use Rattle.demands.specs.Answers.{Refused, unread, breaks-A, breaks-B, breaks-C, not-carried}
 use Rattle.demands.proofs.Stages.{read-lawful, read-limits}
@@ -41,7 +41,7 @@ row i = getD rows i (alone 0)
 in-row : (i item : ℕ) → i < length rows → row i .from ≤ item → item ≤ row i .to → Listed (row i .code) item
 unfolding Listed
 in-row i item h low high =
-    any-at (stands (row i .code) item) (alone 0) rows i h
+    any-at (inRow (row i .code) item) (alone 0) rows i h
     (and-both (eqb (row i .code) (row i .code) && leb (row i .from) item) (leb item (row i .to))
     (and-both (eqb (row i .code) (row i .code)) (leb (row i .from) item) (same (row i .code)) (le→leb (row i .from) item low)) (le→leb item (row i .to) high))
   where
@@ -62,17 +62,17 @@ code-fits code item = go rows (every-all small Small small-is rows tt)
     small-is : (row : Row) → T (small row) → Small row
     small-is row t = (leb→le 1 (row .code) (and-left (leb 1 (row .code)) (ltb (row .code) 256) t), ltb→lt (row .code) 256 (and-right (leb 1 (row .code)) (ltb (row .code) 256) t))
 
-    one : (row : Row) → Small row → T (stands code item row) → (1 ≤ code) × (code < 256)
+    one : (row : Row) → Small row → T (inRow code item row) → (1 ≤ code) × (code < 256)
     one row h t =
         let e = eqb→eq (row .code) code (and-left (eqb (row .code) code) (leb (row .from) item) (and-left (eqb (row .code) code && leb (row .from) item) (leb item (row .to)) t)) in
         (omega (arith, h .0), omega (arith, h .1))
 
-    go : (l : List Row) → All Small l → T (any (stands code item) l) → (1 ≤ code) × (code < 256)
+    go : (l : List Row) → All Small l → T (any (inRow code item) l) → (1 ≤ code) × (code < 256)
     go [] h t = absurd t
-    go (row ∷ l) h t = choose (stands code item row) (one row (h .0)) (go l (h .1)) t
+    go (row ∷ l) h t = choose (inRow code item row) (one row (h .0)) (go l (h .1)) t
       where
-        choose : (b : Bool) → (T b → (1 ≤ code) × (code < 256)) → (T (any (stands code item) l) → (1 ≤ code) × (code < 256))
-            → T (elim b [ true ↦ true | false ↦ any (stands code item) l ]) → (1 ≤ code) × (code < 256)
+        choose : (b : Bool) → (T b → (1 ≤ code) × (code < 256)) → (T (any (inRow code item) l) → (1 ≤ code) × (code < 256))
+            → T (elim b [ true ↦ true | false ↦ any (inRow code item) l ]) → (1 ≤ code) × (code < 256)
         choose true f g t = f tt
         choose false f g t = g t
 

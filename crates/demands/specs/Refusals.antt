@@ -49,9 +49,9 @@ rows =
     ∷ []
 
 -- The code and the item stand in a row.
-abbrev pub stands : ℕ → ℕ → Row → Bool
-stands code item row = eqb (row .code) code && leb (row .from) item && leb item (row .to)
+abbrev pub inRow : ℕ → ℕ → Row → Bool
+inRow code item row = eqb (row .code) code && leb (row .from) item && leb item (row .to)
 
 -- The code and the item are document 01's.
 unfoldable pub Listed : ℕ → ℕ → Type 0
-Listed code item = T (any (stands code item) rows)
+Listed code item = T (any (inRow code item) rows)

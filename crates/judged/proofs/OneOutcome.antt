@@ -13,7 +13,7 @@ use Rattle.sheet_form.specs.Numbers.{Sheet, numbersOf}
 use Rattle.judged_sets.specs.declared.Owning.{Owning}
 use Rattle.judged_sets.specs.declared.Owning.the-variants.{Sets, Refused}
 use Rattle.judged.specs.Judged.{judged, refusal, judgedSheet}
-use Rattle.judged.specs.Held.{Stands, JudgedAs}
+use Rattle.judged.specs.Held.{JudgedHeld, JudgedAs}
 
 -- Held numbers that stand for the same whole numbers are the same.
 same-held : (a b : List ℕ) → map millimetres a ≡ map millimetres b → a ≡ b
@@ -35,7 +35,7 @@ record Fronts (n : Sheet) (sets : List ℕ) (t : ℕ) (numbers opposite l : List
   crossed : take (3 * length (n .table)) opposite ≡ opposites (sidesOf (n .table))
   owned : take (length (n .table)) l ≡ sets
 
-fronts : {s : List ℕ} {t : ℕ} {numbers opposite l : List ℕ} (w : Stands s t numbers opposite l) → Fronts (w .n) (take t l) t numbers opposite l
+fronts : {s : List ℕ} {t : ℕ} {numbers opposite l : List ℕ} (w : JudgedHeld s t numbers opposite l) → Fronts (w .n) (take t l) t numbers opposite l
 fronts {t = t} {numbers = numbers} {opposite = opposite} {l = l} w =
     let size : length (numbersOf (w .n)) ≡ length (take (w .size) numbers) = sym (ap length (w .held .is)) ∙ length-map (take (w .size) numbers) millimetres in
     record {
@@ -46,7 +46,7 @@ fronts {t = t} {numbers = numbers} {opposite = opposite} {l = l} w =
     }
 
 module _ (s : List ℕ) (n : Sheet) (sets : List ℕ) (comes : judgedSheet s ≡ judged n sets) where
-  sheet-fronts : {t : ℕ} {numbers opposite l : List ℕ} → Stands s t numbers opposite l → Fronts n sets t numbers opposite l
+  sheet-fronts : {t : ℕ} {numbers opposite l : List ℕ} → JudgedHeld s t numbers opposite l → Fronts n sets t numbers opposite l
   sheet-fronts {t} {numbers} {opposite} {l} w =
       let e : judged (w .n) (take t l) ≡ judged n sets = sym (w .comes) ∙ comes in
       let same : w .n ≡ n = cc in

@@ -13,18 +13,18 @@ use Rattle.judged_sets.specs.declared.Owning.the-variants.{Sets, Refused}
 use Rattle.judged_sets.proofs.Standing.{polygons-stand}
 use Rattle.judged_sets.proofs.Following.{polygons-count}
 use Rattle.judged.specs.Judged.{refusal, judgedSheet}
-use Rattle.judged.specs.Held.{Stands, JudgedAs}
+use Rattle.judged.specs.Held.{JudgedHeld, JudgedAs}
 use Rattle.judged.proofs.Repaired.{judged-owners, judged-rules, pairs-up}
 
 module _ (s : List ℕ) (r : Owning) (numbers opposite l : List ℕ) (e : JudgedAs s r numbers opposite l) where
   -- The answer tells whether there is a judged sheet.
-  pub stands : (t : ℕ) → r ≡ Sets t → Stands s t numbers opposite l
+  pub stands : (t : ℕ) → r ≡ Sets t → JudgedHeld s t numbers opposite l
   stands t q = subst (λ r. JudgedAs s r numbers opposite l) q e
 
   pub refused-is : (code item : ℕ) → r ≡ Refused code item → judgedSheet s ≡ refusal code item
   refused-is code item q = subst (λ r. JudgedAs s r numbers opposite l) q e
 
-module _ {s : List ℕ} {t : ℕ} {numbers opposite l : List ℕ} (w : Stands s t numbers opposite l) where
+module _ {s : List ℕ} {t : ℕ} {numbers opposite l : List ℕ} (w : JudgedHeld s t numbers opposite l) where
   pub few : t ≤ 1024
   few = omega (arith, w .many, w .held .few)
 

@@ -13,7 +13,7 @@ use Rattle.judged_sets.specs.declared.Owning.the-variants.{Sets, Refused}
 
 -- The bytes come to a sheet of t triangles: it stands at the front of `numbers`, the owner sets stand at the front of l, and the numbers of the
 -- reverses of the table's sides at the front of `opposite`.
-pub record Stands (s : List ℕ) (t : ℕ) (numbers opposite l : List ℕ) : Type 0 where
+pub record JudgedHeld (s : List ℕ) (t : ℕ) (numbers opposite l : List ℕ) : Type 0 where
   pub n : Sheet
   pub size : ℕ
   pub held : SheetHeld n (take size numbers)
@@ -23,5 +23,5 @@ pub record Stands (s : List ℕ) (t : ℕ) (numbers opposite l : List ℕ) : Typ
 
 -- The answer with its three lists is what the bytes come to.
 abbrev pub JudgedAs : List ℕ → Owning → List ℕ → List ℕ → List ℕ → Type 0
-JudgedAs s (Sets t) numbers opposite l = Stands s t numbers opposite l
+JudgedAs s (Sets t) numbers opposite l = JudgedHeld s t numbers opposite l
 JudgedAs s (Refused code item) numbers opposite l = judgedSheet s ≡ refusal code item

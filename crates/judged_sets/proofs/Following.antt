@@ -32,7 +32,7 @@ use Rattle.judged_sets.specs.Owning.{PolygonAt, PolygonsAt, TurnOf, owne
 module _ {numbers : List ℕ} {at : ℕ} {from₀ to₀ from to : List ℕ} {r : Laid} {m : Member} {rest : List ℤ} where
   -- As many edges as are laid down have room in both lists.
   pub laid-room : LaysDown numbers at from₀ to₀ from to r → PolygonAt numbers at m rest → length from₀ ≡ 4096 → length to₀ ≡ 4096 → (r .fill ≤ length from) × (r .fill ≤ length to)
-  laid-room d s f t = let e = d .many m rest (s .stands) in (omega (arith, e, s .few, d .from-length, f), omega (arith, e, s .few, d .to-length, t))
+  laid-room d s f t = let e = d .many m rest (s .numbers-at) in (omega (arith, e, s .few, d .from-length, f), omega (arith, e, s .few, d .to-length, t))
 
   -- What is laid down are edges from corners to corners.
   pub laid-edged : LaysDown numbers at from₀ to₀ from to r → PolygonAt numbers at m rest → length from₀ ≡ 4096 → length to₀ ≡ 4096 → Edged (take (r .fill) from) (take (r .fill) to)
@@ -40,7 +40,7 @@ module _ {numbers : List ℕ} {at : ℕ} {from₀ to₀ from to : List ℕ} {r :
       let w = laid-room d s f t in
       let a = length-take-le (r .fill) from (w .0) in
       let b = length-take-le (r .fill) to (w .1) in
-      let e = d .many m rest (s .stands) in record { from-keys = d .from-keys; to-keys = d .to-keys; as-many = b ∙ sym a; few = omega (arith, a, e, s .few) }
+      let e = d .many m rest (s .numbers-at) in record { from-keys = d .from-keys; to-keys = d .to-keys; as-many = b ∙ sym a; few = omega (arith, a, e, s .few) }
 
 -- ---- the sets found so far
 -- The sets found so far, in front of what is to come.
@@ -125,7 +125,7 @@ module _ {table : List Triangle} {numbers : List ℕ} {ms : List Member} {rest :
         go : (todo : List Member) → k + length todo ≡ length ms → All (λ m. length (memberEdges m) ≤ 4096) todo → map millimetres (drop at numbers) ≡ flatMap memberNumbers todo ++ rest
             → (m : Member) × (behind : List ℤ) × PolygonAt numbers at m behind
         go [] l f s = absurd (omega arith)
-        go (m ∷ t) l f s = (m, flatMap memberNumbers t ++ rest, record { stands = s ∙ append-assoc (memberNumbers m) (flatMap memberNumbers t) rest; few = f .0 })
+        go (m ∷ t) l f s = (m, flatMap memberNumbers t ++ rest, record { numbers-at = s ∙ append-assoc (memberNumbers m) (flatMap memberNumbers t) rest; few = f .0 })
 
     -- The one at the place is not carried: that is what all come to.
     pub following-refused : {r : Turn} {labels : List Bool} → k < length ms → Turns table numbers at r labels → r .judging ≡ NotCarried → judgeFrom table 1 ms ≡ notCarriedAt (suc k)
@@ -136,7 +136,7 @@ module _ {table : List Triangle} {numbers : List ℕ} {ms : List Member} {rest :
             → judgeFrom table 1 ms ≡ before (w .done) (judgeFrom table (suc k) todo) → judgeFrom table 1 ms ≡ notCarriedAt (suc k)
         go [] l f s q = absurd (omega arith)
         go (m ∷ t) l f s q =
-            let x = turns m (flatMap memberNumbers t ++ rest) (record { stands = s ∙ append-assoc (memberNumbers m) (flatMap memberNumbers t) rest; few = f .0 }) in
+            let x = turns m (flatMap memberNumbers t ++ rest) (record { numbers-at = s ∙ append-assoc (memberNumbers m) (flatMap memberNumbers t) rest; few = f .0 }) in
             let y : judge table m ≡ notCarried = sym (x .judged) ∙ ap (λ j. judgedOf j labels) e in
             q ∙ ap (λ j. before (w .done) (followed j (suc k) (judgeFrom table (suc (suc k)) t))) y ∙ before-refused (w .done) (suc k)
 
@@ -150,7 +150,7 @@ module _ {table : List Triangle} {numbers : List ℕ} {ms : List Member} {rest :
             → judgeFrom table 1 ms ≡ before (w .done) (judgeFrom table (suc k) todo) → Following table numbers ms rest (r .at) (k + 1) (marked k labels marks)
         go [] l f s q = absurd (omega arith)
         go (m ∷ t) l f s q =
-            let x = turns m (flatMap memberNumbers t ++ rest) (record { stands = s ∙ append-assoc (memberNumbers m) (flatMap memberNumbers t) rest; few = f .0 }) in
+            let x = turns m (flatMap memberNumbers t ++ rest) (record { numbers-at = s ∙ append-assoc (memberNumbers m) (flatMap memberNumbers t) rest; few = f .0 }) in
             let y : judge table m ≡ carried labels = sym (x .judged) ∙ ap (λ j. judgedOf j labels) e in
             record {
               done = w .done ++ labels ∷ [];

@@ -11,7 +11,7 @@ use Rattle.table.specs.Opposites.{opposites}
 use Rattle.plane.specs.Corners.{millimetres}
 use Rattle.sheet_form.specs.Numbers.{Sheet, triangleNumbers, counted, memberNumbers}
 use Rattle.sheet.specs.Held.{SheetHeld}
-use Rattle.sheet_edges.specs.Standing.{Stands}
+use Rattle.sheet_edges.specs.Standing.{NumbersAt}
 use Rattle.sheet_edges.proofs.Triangles.{table-behind, table-room}
 use Rattle.owners.specs.Owners.{sets}
 use Rattle.judged_sets.specs.declared.Owning.{Owning}
@@ -19,7 +19,7 @@ use Rattle.judged_sets.specs.declared.Owning.the-variants.{Sets, Refused
 use Rattle.judged_sets.specs.Owning.{PolygonsAt, ownedAs, OneEach, Crossed}
 
 module _ (n : Sheet) (numbers : List ℕ) where
-  pub table-stands : SheetHeld n numbers → Stands (counted triangleNumbers) numbers 0 (n .table) (counted memberNumbers (n .polygons))
+  pub table-stands : SheetHeld n numbers → NumbersAt (counted triangleNumbers) numbers 0 (n .table) (counted memberNumbers (n .polygons))
   table-stands h = h .is
 
   pub first-count : SheetHeld n numbers → (0 < length numbers) × (getD numbers 0 0 ≡ length (n .table) + 10_000_000)

@@ -12,7 +12,7 @@ use Rattle.plane.specs.Corners.{millimetres}
 use Rattle.plane.specs.Boundaries.{sidesOf}
 use Rattle.table.specs.Opposites.{opposites}
 use Rattle.sheet_form.specs.Numbers.{Sheet, counted, memberNumbers}
-use Rattle.sheet_edges.specs.Standing.{Stands}
+use Rattle.sheet_edges.specs.Standing.{NumbersAt}
 use Rattle.owners.specs.Judging.{judge, notCarried, code}
 use Rattle.owners.specs.Owners.{Owned, sets, refusal, ownersOf}
 use Rattle.owners_judge.specs.Judged.{judgedOf}
@@ -29,7 +29,7 @@ pub record Lists (n : ℕ) (k r i o : List ℕ) : Type 0 where
 
 -- A polygon stands at the place, with at most 4,096 edges.
 pub record PolygonAt (numbers : List ℕ) (at : ℕ) (m : Member) (rest : List ℤ) : Type 0 where
-  pub stands : Stands memberNumbers numbers at m rest
+  pub numbers-at : NumbersAt memberNumbers numbers at m rest
   pub few : length (memberEdges m) ≤ 4096
 
 -- The polygon was judged so, with these labels, and the rest stands at the place behind it.
@@ -39,7 +39,7 @@ pub record TurnOf (table : List Triangle) (numbers : List ℕ) (m : Member) (res
 
 -- The polygons stand at the place, each with at most 4,096 edges, and there are at most 64.
 pub record PolygonsAt (numbers : List ℕ) (at : ℕ) (ms : List Member) (rest : List ℤ) : Type 0 where
-  pub stand : Stands (counted memberNumbers) numbers at ms rest
+  pub stand : NumbersAt (counted memberNumbers) numbers at ms rest
   pub many : length ms ≤ 64
   pub few : All (λ m. length (memberEdges m) ≤ 4096) ms
 

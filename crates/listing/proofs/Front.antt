@@ -11,9 +11,9 @@ use Rattle.plane.specs.Points.{Triangle}
 use Rattle.plane.specs.Corners.{millimetres}
 use Rattle.plane.specs.Keys.{Held}
 use Rattle.sheet_form.specs.Numbers.{triangleNumbers, memberNumbers, counted}
-use Rattle.sheet_edges.specs.Standing.{Stands as StandsAt}
+use Rattle.sheet_edges.specs.Standing.{NumbersAt}
 use Rattle.sheet_edges.proofs.Triangles.{table-room}
-use Rattle.judged.specs.Held.{Stands}
+use Rattle.judged.specs.Held.{JudgedHeld}
 
 map-take : {A B : Type 0} (f : A → B) (k : ℕ) (l : List A) → map f (take k l) ≡ take k (map f l)
 map-take f zero l = refl
@@ -25,7 +25,7 @@ unfolding flatMap
 six-each [] = omega arith
 six-each (t ∷ table) = omega (arith, length-append (triangleNumbers t) (flatMap triangleNumbers table), six-each table)
 
-module _ {s : List ℕ} {t : ℕ} {numbers opposite l : List ℕ} (w : Stands s t numbers opposite l) where
+module _ {s : List ℕ} {t : ℕ} {numbers opposite l : List ℕ} (w : JudgedHeld s t numbers opposite l) where
   room-held : 1 + 6 * t ≤ length (take (w .size) numbers)
   room-held = omega (arith, w .many, table-room (take (w .size) numbers) (w .n .table) (counted memberNumbers (w .n .polygons)) (w .held .is))
 
@@ -38,7 +38,7 @@ module _ {s : List ℕ} {t : ℕ} {numbers opposite l : List ℕ} (w : Stands s 
   pub table-held : All Held (take (1 + 6 * t) numbers)
   table-held = subst (All Held) front (all-take Held (1 + 6 * t) (take (w .size) numbers) (w .held .held))
 
-  pub table-front : StandsAt (counted triangleNumbers) (take (1 + 6 * t) numbers) 0 (w .n .table) []
+  pub table-front : NumbersAt (counted triangleNumbers) (take (1 + 6 * t) numbers) 0 (w .n .table) []
   table-front =
       ap (map millimetres) (sym front)
       ∙ map-take millimetres (1 + 6 * t) (take (w .size) numbers)

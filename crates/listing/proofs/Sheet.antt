@@ -23,7 +23,7 @@ use Rattle.listing_figures.specs.Figures.{marksOf, total}
 use Rattle.listing_figures.specs.Standings.{isGap, isOverlap, isSingle}
 use Rattle.owners.specs.Owners.{sets, ownersOf}
 use Rattle.judged.specs.Judged.{judgedSheet}
-use Rattle.judged.specs.Held.{Stands}
+use Rattle.judged.specs.Held.{JudgedHeld}
 use Rattle.judged.proofs.Repaired.{judged-owners}
 use Rattle.judged.proofs.Standing.{few, sets-many}
 use Rattle.listing.proofs.Figures.{polygons-before, polygons-after, gaps-are, overlaps-are, figure-lines, verdict-is}
@@ -33,7 +33,7 @@ use Rattle.listing_lines.specs.Printing.{Figures, lineBy, verdictBy, headBy, af
 use Rattle.listing.specs.Listing.{figureLine, verdictLine, headOf, afterLines, listing}
 use Rattle.listing.specs.Held.{AreasOf}
 
-module _ {s : List ℕ} {t : ℕ} {numbers opposite l : List ℕ} (w : Stands s t numbers opposite l) where
+module _ {s : List ℕ} {t : ℕ} {numbers opposite l : List ℕ} (w : JudgedHeld s t numbers opposite l) where
   abbrev n : Sheet
   n = w .n
 

@@ -3,7 +3,7 @@ ghost use mathlib.Core.List.{List};
 ghost use Prim.Native.Nat.{ℕ, _≤_};
 ghost use lib.ListN.{length};
 ghost use Rattle.judged.specs.Judged.{judgedSheet};
-ghost use Rattle.judged.specs.Held.{Stands};
+ghost use Rattle.judged.specs.Held.{JudgedHeld};
 ghost use Rattle.lent_text.specs.Putting.{Put};
 ghost use Rattle.listing.specs.Listing.{listing};
 ghost use Rattle.listing.specs.Held.{AreasOf};
@@ -12,8 +12,8 @@ use plane::OFFSET;
 
 // The double area of each triangle of the sheet.
 fn lay_areas(numbers: &[u32], areas: &mut [u64])
-    requires { ⌜ ((s : List ℕ) × (opposite : List ℕ) × (l : List ℕ) × Stands s (length (now areas)) (now numbers) opposite l) ⌝ }
-    ensures { λ _. ⌜ ((s opposite l : List ℕ) (w : Stands s (length (now (areas .entry))) (now (numbers .entry)) opposite l) → AreasOf (w .n) (now (areas .exit))) ⌝ }
+    requires { ⌜ ((s : List ℕ) × (opposite : List ℕ) × (l : List ℕ) × JudgedHeld s (length (now areas)) (now numbers) opposite l) ⌝ }
+    ensures { λ _. ⌜ ((s opposite l : List ℕ) (w : JudgedHeld s (length (now (areas .entry))) (now (numbers .entry)) opposite l) → AreasOf (w .n) (now (areas .exit))) ⌝ }
 {
     let n = areas.len();
     let mut keys = [0u64; 3072];
@@ -23,8 +23,8 @@ fn lay_areas(numbers: &[u32], areas: &mut [u64])
 
 // The listing of a judged sheet of n triangles.
 fn put_judged(numbers: &[u32], opposite: &[usize], sets: &[u64], n: usize, text: &mut [u8]) -> usize
-    requires { ⌜ ((s : List ℕ) × Stands s n (now numbers) (now opposite) (now sets)) × (6600 ≤ length (now text)) ⌝ }
-    ensures { λ r. ⌜ (r ≤ 6600) × ((s : List ℕ) → Stands s n (now (numbers .entry)) (now (opposite .entry)) (now (sets .entry)) → Put 0 (listing (judgedSheet s)) (now (text .entry)) r (now (text .exit))) ⌝ }
+    requires { ⌜ ((s : List ℕ) × JudgedHeld s n (now numbers) (now opposite) (now sets)) × (6600 ≤ length (now text)) ⌝ }
+    ensures { λ r. ⌜ (r ≤ 6600) × ((s : List ℕ) → JudgedHeld s n (now (numbers .entry)) (now (opposite .entry)) (now (sets .entry)) → Put 0 (listing (judgedSheet s)) (now (text .entry)) r (now (text .exit))) ⌝ }
 {
     let polygons = numbers[1 + 6 * n] - OFFSET;
     let mut areas = [0u64; 1024];

@@ -19,7 +19,7 @@ use Rattle.repair_answers.specs.Answers.{afterRepair, numbersAfter}
 use Rattle.repair_answers.specs.Held.{ownersOutcome, sidesHeld, sidesOutcome}
 use Rattle.listing.specs.Listing.{listing}
 use Rattle.judged.specs.Judged.{judgedSheet, refusal as refused}
-use Rattle.judged.specs.Held.{Stands}
+use Rattle.judged.specs.Held.{JudgedHeld}
 use Rattle.judged.proofs.Standing.{once, sets-many}
 use Rattle.judged.proofs.Sides.{sides-held, sides-as-many}
 use Rattle.outcomes.specs.Entries.{onJudged, sheetOwnerSets, sheetOwners, repairOf, sidesAfter, ownedSides, boundaryOutcome, sheetBoundary, sheetListing}
@@ -33,7 +33,7 @@ after-same : (f g : List ℕ → Outcome) (r : Option (List ℕ)) (n : ℕ) → 
 after-same f g none n h e = refl
 after-same f g (some l) n h e = e l (h l refl)
 
-module _ {s : List ℕ} {t : ℕ} {numbers opposite l : List ℕ} (w : Stands s t numbers opposite l) where
+module _ {s : List ℕ} {t : ℕ} {numbers opposite l : List ℕ} (w : JudgedHeld s t numbers opposite l) where
   pub owner-sets-on : setsOutcome (take t l) ≡ sheetOwnerSets s
   owner-sets-on = sym (ap (onJudged (λ n sets. setsOutcome sets)) (w .comes))
 

@@ -6,7 +6,7 @@ use Prim.Native.Nat.{ℕ, zero, suc}
 use lib.Dec.{ltb, eqb}
 use Rattle.wkb.specs.declared.Cursor.{Cursor}
 use Rattle.wkb.specs.Steps.{slotOf, complete, renewed, popped, fewerParts}
-use Rattle.sheet.specs.Behind.{counts, behind, behindAll, levels, Stands, Row, Finished}
+use Rattle.sheet.specs.Behind.{counts, behind, behindAll, levels, Begins, Row, Finished}
 
 alike : (b : Bool) (x y x′ y′ : Cursor) → counts x ≡ counts x′ → counts y ≡ counts y′ → counts (cond b x y) ≡ counts (cond b x′ y′)
 alike true x y x′ y′ p q = p
@@ -36,18 +36,18 @@ unfolding behindAll
 same-behind-all zero c d e = e
 same-behind-all (suc n) c d e = same-behind-all n (behind c) (behind d) (same-behind c d e)
 
-stands-counts : (depth : ℕ) (c : Cursor) → Stands depth c → Stands depth (counts c)
+stands-counts : (depth : ℕ) (c : Cursor) → Begins depth c → Begins depth (counts c)
 unfolding complete levels slotOf
 stands-counts depth c h = record { no-rings = h .no-rings; no-points = h .no-points; more = h .more; alone = h .alone; deep = h .deep }
 
-counts-stand : (depth : ℕ) (c : Cursor) → Stands depth (counts c) → Stands depth c
+counts-stand : (depth : ℕ) (c : Cursor) → Begins depth (counts c) → Begins depth c
 unfolding complete levels slotOf
 counts-stand depth c h = record { no-rings = h .no-rings; no-points = h .no-points; more = h .more; alone = h .alone; deep = h .deep }
 
 pub same-row : (n depth : ℕ) (c d : Cursor) → counts c ≡ counts d → Row n depth c → Row n depth d
 same-row zero depth c d e h = tt
 same-row (suc n) depth c d e h = (
-  counts-stand depth d (subst (Stands depth) e (stands-counts depth c (h .0))),
+  counts-stand depth d (subst (Begins depth) e (stands-counts depth c (h .0))),
   ap (λ (k : Cursor). eqb (k .member) 0) (sym e) ∙ h .1,
   same-row n depth (behind c) (behind d) (same-behind c d e) (h .2),
 )

@@ -22,7 +22,7 @@ use Rattle.sheet.specs.declared.Build.{Build}
 use Rattle.sheet.specs.declared.Ending.the-variants.{Sheet, Refused as Refusal}
 use Rattle.sheet.specs.Reading.{Taken, Reading, on, over, nothing, ended, taken, turn, readingOf}
 use Rattle.sheet.specs.Going.{laid, Shows, Within, readOf, reading}
-use Rattle.sheet.specs.Behind.{levels, Stands, Finished}
+use Rattle.sheet.specs.Behind.{levels, Begins, Finished}
 use Rattle.sheet.proofs.Run.{reading-turns, reading-starts}
 use Rattle.sheet.proofs.Laid.{laid-none}
 use Rattle.sheet.proofs.Onward.{Trail, Stops}
@@ -35,7 +35,7 @@ pub begun : (s : List ℕ) → Within s start empty
 begun s = record { sane = record { polygons = omega arith; members = omega arith }; filled = omega arith; inside = omega arith }
 
 -- The sheet stands there, with five levels inside.
-pub sheet-stands : (depth : ℕ) → 5 ≤ depth → Stands depth start
+pub sheet-stands : (depth : ℕ) → 5 ≤ depth → Begins depth start
 unfolding levels slotOf complete
 sheet-stands depth l = record { no-rings = refl; no-points = refl; more = refl; alone = λ t. refl; deep = l }
 

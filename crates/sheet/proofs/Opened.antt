@@ -28,7 +28,7 @@ use Rattle.sheet.specs.declared.Build.{Build}
 use Rattle.sheet.specs.declared.Turn.{Turn}
 use Rattle.sheet.specs.declared.Turn.the-variants.{On, Over}
 use Rattle.sheet.specs.Going.{Leads}
-use Rattle.sheet.specs.Behind.{counts, closed, behind, behindAll, levelsAt, levels, Stands, Row, After, To, Past}
+use Rattle.sheet.specs.Behind.{counts, closed, behind, behindAll, levelsAt, levels, Begins, Row, After, To, Past}
 use Rattle.sheet.proofs.Onward.{Goes}
 use Rattle.sheet.proofs.Counts.{same-renewed, same-finished}
 use Rattle.sheet.proofs.Rows.{behind-part, behind-other, row, behind-row, Own, own-row, own-finished}
@@ -62,7 +62,7 @@ header-opens s c =
     n : ℕ
     n = wordAt little s (c .at + 5)
 
-pub step-opens : (s : List ℕ) (depth : ℕ) (c : Cursor) → Stands depth c → Opens c (stepAt s c)
+pub step-opens : (s : List ℕ) (depth : ℕ) (c : Cursor) → Begins depth c → Opens c (stepAt s c)
 unfolding stepAt
 step-opens s depth c h =
     let r = h .no-rings in
@@ -78,7 +78,7 @@ pub record Holds (depth : ℕ) (c : Cursor) (n : ℕ) (d : Cursor) : Type 0 wher
   pub last : d .rings ≡ 0 → (e : Cursor) → counts e ≡ counts (behindAll n d) → After (eqb (c .member) 0) c e
 
 stands-inside : (depth : ℕ) (c : Cursor) → c .rings ≡ 0 → c .points ≡ 0 → c .header ≡ false → eqb (c .member) 0 ≡ false
-    → 0 < c .second + c .third + c .fourth + c .parts → levels c ≤ depth → Stands depth c
+    → 0 < c .second + c .third + c .fourth + c .parts → levels c ≤ depth → Begins depth c
 stands-inside depth c r p h i l d = record {
   no-rings = r;
   no-points = p;
@@ -110,7 +110,7 @@ module _ (depth : ℕ) (c : Cursor) (inside : eqb (c .member) 0 ≡ false) where
 
   -- A container, of which a count of the place says how many geometries are to come.
   holds-row : (toCome : ℕ → Cursor → Cursor) (p : Cursor) → behind c ≡ renewed p → counts (toCome 0 (moved 9 p)) ≡ counts p
-      → ((m : ℕ) → Stands (depth - 1) (toCome (suc m) (moved 9 p)) × (eqb (toCome (suc m) (moved 9 p) .member) 0 ≡ false) × (behind (toCome (suc m) (moved 9 p)) ≡ renewed (toCome (suc m - 1) (moved 9 p))))
+      → ((m : ℕ) → Begins (depth - 1) (toCome (suc m) (moved 9 p)) × (eqb (toCome (suc m) (moved 9 p) .member) 0 ≡ false) × (behind (toCome (suc m) (moved 9 p)) ≡ renewed (toCome (suc m - 1) (moved 9 p))))
       → 0 < depth → (n : ℕ) → 0 < n → toCome n (moved 9 p) .rings ≡ 0 → Holds depth c n (toCome n (moved 9 p))
   holds-row toCome p e none each d zero l r = absurd (omega arith)
   holds-row toCome p e none each d (suc n) l r = record {
@@ -131,19 +131,19 @@ module _ (depth : ℕ) (c : Cursor) (inside : eqb (c .member) 0 ≡ false) where
   unfolding withParts fewerParts
   holds-parts n p l d r q h i z e = holds-row partsToCome p e (ap (λ x. counts (partsToCome x p)) (sym z)) each d n l r
     where
-      each : (m : ℕ) → Stands (depth - 1) (partsToCome (suc m) (moved 9 p)) × (eqb (p .member) 0 ≡ false) × (behind (partsToCome (suc m) (moved 9 p)) ≡ renewed (partsToCome (suc m - 1) (moved 9 p)))
+      each : (m : ℕ) → Begins (depth - 1) (partsToCome (suc m) (moved 9 p)) × (eqb (p .member) 0 ≡ false) × (behind (partsToCome (suc m) (moved 9 p)) ≡ renewed (partsToCome (suc m - 1) (moved 9 p)))
       each m =
           let f = partsToCome (suc m) (moved 9 p) in
           (stands-inside (depth - 1) f r q h i (omega arith) (let v = part-levels f i (omega arith) in omega arith), i, behind-part f (omega arith))
 
 -- A collection under a member: its own, and one in a collection at depth 2 or 3. At depth 4 none is let through.
-module _ (depth : ℕ) (c : Cursor) (h : Stands depth c) (inside : eqb (c .member) 0 ≡ false) (other : eqb (c .member) 1 ≡ false) (z : c .parts ≡ 0) (n : ℕ) (l : 0 < n) where
+module _ (depth : ℕ) (c : Cursor) (h : Begins depth c) (inside : eqb (c .member) 0 ≡ false) (other : eqb (c .member) 1 ≡ false) (z : c .parts ≡ 0) (n : ℕ) (l : 0 < n) where
   levels-at : levelsAt Member (c .header) (c .third) (c .fourth) ≤ depth
   levels-at = rw (member-levels c inside other z) at (h .deep)
 
   -- One of its members, of which the header, the counts and the levels are these.
   stands-member : (d : Cursor) → d .rings ≡ c .rings → d .points ≡ c .points → d .member ≡ c .member → d .parts ≡ c .parts → d .header ≡ false → 0 < d .second + d .third + d .fourth
-      → levelsAt Member false (d .third) (d .fourth) ≤ depth - 1 → Stands (depth - 1) d
+      → levelsAt Member false (d .third) (d .fourth) ≤ depth - 1 → Begins (depth - 1) d
   stands-member d r q m p e k v =
       let i : eqb (d .member) 0 ≡ false = rw m inside in
       let o : eqb (d .member) 1 ≡ false = rw m other in
@@ -208,7 +208,7 @@ where-is c =
     (λ f. by-equal (Where c) (ltb 0 (c .parts)) Part Member (λ g. (e, ltb-true 0 (c .parts) g)) (λ g. let z = ltb-false 0 (c .parts) g in (e, f, omega arith))))
 
 -- The sheet, with the table and its members.
-holds-sheet : (depth : ℕ) (c : Cursor) → Stands depth c → eqb (c .member) 0 ≡ true → 5 ≤ depth → (n : ℕ) → 0 < n → Holds depth c n (withSheet n c)
+holds-sheet : (depth : ℕ) (c : Cursor) → Begins depth c → eqb (c .member) 0 ≡ true → 5 ≤ depth → (n : ℕ) → 0 < n → Holds depth c n (withSheet n c)
 unfolding withSheet
 holds-sheet depth c h w v zero l = absurd (omega arith)
 holds-sheet depth c h w v (suc m) l = record {
@@ -224,7 +224,7 @@ holds-sheet depth c h w v (suc m) l = record {
     own : Own m d
     own = record { no-rings = h .no-rings; no-points = h .no-points; header = refl; none = h .alone (rw w tt); inside = refl; members = omega arith }
 
-module _ (depth : ℕ) (c : Cursor) (h : Stands depth c) (little : Bool) (kind n : ℕ) (l : 0 < n) where
+module _ (depth : ℕ) (c : Cursor) (h : Begins depth c) (little : Bool) (kind n : ℕ) (l : 0 < n) where
   -- The geometry of a member or of a collection under it.
   holds-member : Where c Member → kindFault Member c kind ≡ 0 → Holds depth c n (opened Member c little kind n)
   unfolding opened
@@ -258,7 +258,7 @@ module _ (depth : ℕ) (c : Cursor) (h : Stands depth c) (little : Bool) (kind n
   holds Member w v f = holds-member w f
 
 -- A step that opens a geometry where one stands.
-pub step-holds : (s : List ℕ) (depth : ℕ) (c : Cursor) (kind n : ℕ) (d : Cursor) → Stands depth c → stepAt s c ≡ Geometry kind n d → Holds depth c n d
+pub step-holds : (s : List ℕ) (depth : ℕ) (c : Cursor) (kind n : ℕ) (d : Cursor) → Begins depth c → stepAt s c ≡ Geometry kind n d → Holds depth c n d
 unfolding levels
 step-holds s depth c kind n d h e =
     let o = subst (Opens c) e (step-opens s depth c h) in
@@ -272,10 +272,10 @@ opens-goes c (Point x y d) o = absurd o
 opens-goes c (End d) o = absurd o
 opens-goes c (Refused code item d) o = o
 
-pub stands-goes : (s : List ℕ) (depth : ℕ) (c : Cursor) → Stands depth c → Goes (stepAt s c)
+pub stands-goes : (s : List ℕ) (depth : ℕ) (c : Cursor) → Begins depth c → Goes (stepAt s c)
 stands-goes s depth c h = opens-goes c (stepAt s c) (step-opens s depth c h)
 
-module _ (s : List ℕ) (depth : ℕ) (c : Cursor) (b : Build) (a : Step) (r : Turn) (e : a ≡ stepAt s c) (l : Leads a b r) (h : Stands depth c) (d : Cursor) (f : Build) (q : r ≡ On d f) where
+module _ (s : List ℕ) (depth : ℕ) (c : Cursor) (b : Build) (a : Step) (r : Turn) (e : a ≡ stepAt s c) (l : Leads a b r) (h : Begins depth c) (d : Cursor) (f : Build) (q : r ≡ On d f) where
   -- It goes on from a geometry, which holds what its header says,
   pub goes-held : (kind n : ℕ) (x : Cursor) → a ≡ Geometry kind n x → Holds depth c n d
   goes-held kind n x g =

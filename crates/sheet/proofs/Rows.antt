@@ -14,7 +14,7 @@ use Rattle.wkb.specs.Places.{naming, headerToCome, polygonsBegun}
 use Rattle.wkb.specs.Steps.{slotOf, complete, renewed, upTo, popped, fewerParts}
 use Rattle.wkb.proofs.Steps.{popped-own}
 use Rattle.wkb.proofs.Complete.{complete-is, not-complete}
-use Rattle.sheet.specs.Behind.{counts, behind, behindAll, levelsAt, levels, Stands, Row, Finished, After}
+use Rattle.sheet.specs.Behind.{counts, behind, behindAll, levelsAt, levels, Begins, Row, Finished, After}
 use Rattle.sheet.proofs.Counts.{same-behind-all, same-row}
 
 -- ---- one geometry fewer
@@ -32,7 +32,7 @@ unfolding renewed
 renewed-stays c e = rw e
 
 -- ---- a container, of which n geometries are to come at k n
-module _ (depth : ℕ) (k : ℕ → Cursor) (stands : (m : ℕ) → Stands depth (k (suc m))) (inside : (m : ℕ) → eqb (k (suc m) .member) 0 ≡ false)
+module _ (depth : ℕ) (k : ℕ → Cursor) (stands : (m : ℕ) → Begins depth (k (suc m))) (inside : (m : ℕ) → eqb (k (suc m) .member) 0 ≡ false)
     (goes : (m : ℕ) → counts (behind (k (suc m))) ≡ counts (renewed (k m))) where
   stays : (m : ℕ) → counts (renewed (k (suc m))) ≡ counts (k (suc m))
   stays m = ap counts (renewed-stays (k (suc m)) (rw (inside m) at (stands m .more)))
@@ -48,7 +48,7 @@ module _ (depth : ℕ) (k : ℕ → Cursor) (stands : (m : ℕ) → Stands depth
   behind-row (suc n) = same-behind-all (suc n) (behind (k (suc (suc n)))) (k (suc n)) (goes (suc n) ∙ stays n) ∙ behind-row n
 
 -- ---- a row, geometry by geometry
-pub row-first : (n depth : ℕ) (c : Cursor) → 0 < n → Row n depth c → Stands depth c
+pub row-first : (n depth : ℕ) (c : Cursor) → 0 < n → Row n depth c → Begins depth c
 row-first zero depth c l h = absurd (omega arith)
 row-first (suc n) depth c l h = h .0
 
@@ -75,7 +75,7 @@ pub record Own (m : ℕ) (c : Cursor) : Type 0 where
   pub inside : eqb (c .member) 0 ≡ false
   pub members : c .members ≡ m
 
-own-stands : (m depth : ℕ) (c : Cursor) → Own m c → levels c ≤ depth → Stands depth c
+own-stands : (m depth : ℕ) (c : Cursor) → Own m c → levels c ≤ depth → Begins depth c
 own-stands m depth c h l = record {
   no-rings = h .no-rings;
   no-points = h .no-points;

@@ -43,7 +43,7 @@ levels c = levelsAt (slotOf c) (c .header) (c .third) (c .fourth)
 
 -- A geometry stands at c with so many levels inside at most: no ring and no point is to come, but something is. Where it is the sheet, or a
 -- member's own geometry, it stands alone.
-pub record Stands (depth : ℕ) (c : Cursor) : Type 0 where
+pub record Begins (depth : ℕ) (c : Cursor) : Type 0 where
   pub no-rings : c .rings ≡ 0
   pub no-points : c .points ≡ 0
   pub more : (not (eqb (c .member) 0) && complete c) ≡ false
@@ -53,7 +53,7 @@ pub record Stands (depth : ℕ) (c : Cursor) : Type 0 where
 -- So many geometries of a sheet stand from c on, each behind the one before it.
 abbrev pub Row : ℕ → ℕ → Cursor → Type 0
 Row zero depth c = Unit {0}
-Row (suc n) depth c = Stands depth c × (eqb (c .member) 0 ≡ false) × Row n depth (behind c)
+Row (suc n) depth c = Begins depth c × (eqb (c .member) 0 ≡ false) × Row n depth (behind c)
 
 -- Nothing of the sheet is to come.
 abbrev pub Finished : Cursor → Type 0

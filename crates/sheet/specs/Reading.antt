@@ -4,6 +4,7 @@ use mathlib.Core.List.{List, [], _∷_, _++_}
 use Prim.Native.Nat.{ℕ, zero, suc, _+_}
 use lib.Dec.{eqb}
 use lib.ListN.{length, set}
+use Rattle.plane.specs.Corners.{offset}
 use Rattle.sheet_coordinate.specs.Coordinate.{coordinateOf}
 use Rattle.sheet_coordinate.specs.declared.Coordinate.{Coordinate}
 use Rattle.sheet_coordinate.specs.declared.Coordinate.the-variants.{Whole, Not}
@@ -46,7 +47,7 @@ remembering x y b = record { numbers = b .numbers; mark = b .mark; first = false
 -- ---- what a field adds
 -- A count as it is held.
 abbrev pub held : ℕ → ℕ
-held n = n + 10_000_000
+held n = n + offset
 
 -- One number more.
 abbrev pub push : ℕ → Taken → Taken

@@ -9,7 +9,7 @@ ghost use Rattle.sheet.specs.Reading.{Taken, readingOf};
 ghost use Rattle.sheet_coordinate.specs.Coordinate.{coordinateOf};
 ghost use Rattle.wkb.specs.declared.Step.the-variants.{Point};
 ghost use Rattle.sheet.specs.Going.{laid, Shows, Turned, Within, Ready, Leads, Follows, readOf};
-ghost use Rattle.sheet.specs.Behind.{closed, behindAll, Stands, Row, To, Past};
+ghost use Rattle.sheet.specs.Behind.{closed, behindAll, Begins, Row, To, Past};
 use plane::OFFSET;
 use sheet_coordinate::Coordinate;
 use wkb::Cursor;
@@ -265,7 +265,7 @@ fn rings(s: &[u8], from: Cursor, had: Build, numbers: &mut [u32]) -> Turn
 
 // A geometry, whole: its header, then its rings or the geometries that it holds, which are so many levels deep at most.
 fn geometry(s: &[u8], c: Cursor, b: Build, depth: u32, numbers: &mut [u32]) -> Turn
-    requires { ⌜ Within (now s) c b × Stands depth c ⌝ }
+    requires { ⌜ Within (now s) c b × Begins depth c ⌝ }
     ensures { λ r. ⌜ Follows (now (s .entry)) c b (now (numbers .entry)) (c .at + 1) r (now (numbers .exit)) × Past c r ⌝ }
 {
     let a = c.step(s);

@@ -46,12 +46,12 @@ one-table table a b h k e f =
 module _ {numbers from₀ to₀ : List ℕ} {at : ℕ} (room : Room memberNumbers memberEdges numbers at 0 from₀ to₀) where
   module _ {from to : List ℕ} {r : Laid} (p : LaysDown numbers at from₀ to₀ from to r) where
     fill-is : r .fill ≡ length (memberEdges (room .thing))
-    fill-is = p .many (room .thing) (room .rest) (room .stands)
+    fill-is = p .many (room .thing) (room .rest) (room .numbers-at)
 
     place-is : length numbers ≡ r .at + length (room .rest)
     place-is =
-        let e = ap length (p .behind (room .thing) (room .rest) (room .stands)) in
-        omega (arith, e, length-map (drop (r .at) numbers) millimetres, length-drop (r .at) numbers, p .within (room .thing) (room .rest) (room .stands))
+        let e = ap length (p .behind (room .thing) (room .rest) (room .numbers-at)) in
+        omega (arith, e, length-map (drop (r .at) numbers) millimetres, length-drop (r .at) numbers, p .within (room .thing) (room .rest) (room .numbers-at))
 
     from-long : length (take (r .fill) from) ≡ r .fill
     from-long = length-take-le (r .fill) from (omega (arith, fill-is, p .from-length, room .from-room))
@@ -60,10 +60,10 @@ module _ {numbers from₀ to₀ : List ℕ} {at : ℕ} (room : Room memberNumber
     to-long = length-take-le (r .fill) to (omega (arith, fill-is, p .to-length, room .to-room))
 
     starts-are : pointsAt (take (r .fill) from) ≡ map (λ e. e .from) (memberEdges (room .thing))
-    starts-are = sym (starts-of (take (r .fill) from) (take (r .fill) to) (to-long ∙ sym from-long)) ∙ ap (map (λ e. e .from)) (p .edges (room .thing) (room .rest) (room .stands))
+    starts-are = sym (starts-of (take (r .fill) from) (take (r .fill) to) (to-long ∙ sym from-long)) ∙ ap (map (λ e. e .from)) (p .edges (room .thing) (room .rest) (room .numbers-at))
 
     ends-are : pointsAt (take (r .fill) to) ≡ map (λ e. e .to) (memberEdges (room .thing))
-    ends-are = sym (ends-of (take (r .fill) from) (take (r .fill) to) (to-long ∙ sym from-long)) ∙ ap (map (λ e. e .to)) (p .edges (room .thing) (room .rest) (room .stands))
+    ends-are = sym (ends-of (take (r .fill) from) (take (r .fill) to) (to-long ∙ sym from-long)) ∙ ap (map (λ e. e .to)) (p .edges (room .thing) (room .rest) (room .numbers-at))
 
   -- Lists with one front, and behind it what stood there before.
   whole : (l a b : List ℕ) (n k : ℕ) → n ≡ k → take n a ≡ take k b → drop n a ≡ drop n l → drop k b ≡ drop k l → a ≡ b

@@ -13,11 +13,11 @@ use Rattle.plane.specs.Corners.{millimetres}
 use Rattle.plane.specs.Keys.{point, Held, keyOf, pointAt, Key}
 use Rattle.table.specs.Sides.{trianglesOf}
 use Rattle.sheet_form.specs.Numbers.{pointNumbers, triangleNumbers, counted}
-use Rattle.sheet_edges.specs.Standing.{Stands, cornerAt}
+use Rattle.sheet_edges.specs.Standing.{NumbersAt, cornerAt}
 use Rattle.sheet_edges.proofs.Walk.{count-first, key-at, point-at, point-first}
 
 -- A triangle stands at the place: three points, one behind the other.
-triangle-first : (numbers : List ℕ) (at : ℕ) (t : Triangle) (rest : List ℤ) → Stands triangleNumbers numbers at t rest
+triangle-first : (numbers : List ℕ) (at : ℕ) (t : Triangle) (rest : List ℤ) → NumbersAt triangleNumbers numbers at t rest
     → (at + 5 < length numbers) × (point (cornerAt numbers at) ≡ t .a) × (point (cornerAt numbers (at + 2)) ≡ t .b) × (point (cornerAt numbers (at + 2 + 2)) ≡ t .c)
     × (map millimetres (drop (at + 2 + 2 + 2) numbers) ≡ rest)
 triangle-first numbers at t rest s =
@@ -38,7 +38,7 @@ triangles-behind numbers at (t ∷ table) rest h s =
     (omega arith, ap (λ n. map millimetres (drop n numbers)) e ∙ v .1)
 
 -- The count of the table stands first, and behind its triangles' numbers stands the rest.
-module _ (numbers : List ℕ) (table : List Triangle) (rest : List ℤ) (s : Stands (counted triangleNumbers) numbers 0 table rest) where
+module _ (numbers : List ℕ) (table : List Triangle) (rest : List ℤ) (s : NumbersAt (counted triangleNumbers) numbers 0 table rest) where
   pub table-behind : (getD numbers 0 0 ≡ length table + 10_000_000) × (map millimetres (drop (1 + 6 * length table) numbers) ≡ rest)
   table-behind = let u = count-first triangleNumbers numbers 0 table rest s in (u .1, triangles-behind numbers 1 table rest (omega arith) (u .2) .1)
 
@@ -95,7 +95,7 @@ module _ (numbers : List ℕ) (held : All Held numbers) where
       triangle : (p q r : Point) → p ≡ t .a → q ≡ t .b → r ≡ t .c → record { a = p; b = q; c = r } ≡ t
       triangle p q r d e f = rw (d, e, f) refl
 
-  pub laid-table : (keys : List ℕ) → Laying numbers 1 keys (length keys) → (table : List Triangle) (rest : List ℤ) → Stands (counted triangleNumbers) numbers 0 table rest
+  pub laid-table : (keys : List ℕ) → Laying numbers 1 keys (length keys) → (table : List Triangle) (rest : List ℤ) → NumbersAt (counted triangleNumbers) numbers 0 table rest
       → length keys ≡ 3 * length table → trianglesOf keys ≡ table
   laid-table keys w table rest s h = laid-triangles 1 keys w table rest (count-first triangleNumbers numbers 0 table rest s .2) h
 
@@ -115,7 +115,7 @@ keys-laid numbers at (suc n) (suc j) h =
     let e : at + 2 + 2 * j ≡ at + 2 * suc j = omega arith in keys-laid numbers (at + 2) n j (omega arith) ∙ ap (λ i. keyOf (cornerAt numbers i)) e
 
 -- A table that stands at the front of held numbers is the triangles of its corners' numbers, three for each, as they stand there.
-pub held-keys : (numbers : List ℕ) → All Held numbers → (table : List Triangle) (rest : List ℤ) → Stands (counted triangleNumbers) numbers 0 table rest
+pub held-keys : (numbers : List ℕ) → All Held numbers → (table : List Triangle) (rest : List ℤ) → NumbersAt (counted triangleNumbers) numbers 0 table rest
     → (keys : List ℕ) × (length keys ≡ 3 * length table) × (trianglesOf keys ≡ table) × ((k : ℕ) → k < length keys → getD keys k 0 ≡ keyOf (cornerAt numbers (1 + 2 * k)))
 held-keys numbers held table rest s = (keys, long, laid-table numbers held keys laid table rest s long, laid)
   where

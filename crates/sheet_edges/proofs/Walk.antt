@@ -15,7 +15,7 @@ use Rattle.plane.specs.Keys.{point, Held, InRange, keyOf, pointAt, Key, pairs}
 use Rattle.table.proofs.Bounds.{key-of}
 use Rattle.sheet_form.specs.Numbers.{pointNumbers, counted, ringNumbers, memberNumbers}
 use Rattle.sheet_edges.specs.declared.Laid.{Laid}
-use Rattle.sheet_edges.specs.Standing.{Stands, cornerAt, Room, Stored, Lays, LaysDown}
+use Rattle.sheet_edges.specs.Standing.{NumbersAt, cornerAt, Room, Stored, Lays, LaysDown}
 use Rattle.sheet_edges.proofs.Stores.{pairs-++, pairs-length, stored-none, stored-one, stored-more, from-length, to-length, front}
 
 -- The first of the numbers from a place on.
@@ -40,7 +40,7 @@ pub record Left {A : Type 0} (f : A → List ℤ) (e : List A → List Edge) (nu
   pub todo : List A
   pub many : length todo ≡ left
   pub edges : done ++ e todo ≡ e l
-  pub stands : map millimetres (drop here numbers) ≡ flatMap f todo ++ rest
+  pub numbers-at : map millimetres (drop here numbers) ≡ flatMap f todo ++ rest
   pub within : here ≤ length numbers
 
 -- While a counted list is read: corners are stored from place fill on, and they and what is left make up the list that stands at the place, whichever it is.
@@ -48,16 +48,16 @@ pub record Going {A : Type 0} (f : A → List ℤ) (e : List A → List Edge) (n
   pub starts : List ℕ
   pub ends : List ℕ
   pub stored : Stored from₀ to₀ fill starts ends from to next
-  pub reads : (l : List A) (rest : List ℤ) → Stands (counted f) numbers at l rest → Left f e numbers here left (pairs starts ends) l rest
+  pub reads : (l : List A) (rest : List ℤ) → NumbersAt (counted f) numbers at l rest → Left f e numbers here left (pairs starts ends) l rest
 
 -- A counted list: its count stands at the place, and behind it its things, one behind the other.
-pub count-first : {A : Type 0} (f : A → List ℤ) (numbers : List ℕ) (at : ℕ) (l : List A) (rest : List ℤ) → Stands (counted f) numbers at l rest
+pub count-first : {A : Type 0} (f : A → List ℤ) (numbers : List ℕ) (at : ℕ) (l : List A) (rest : List ℤ) → NumbersAt (counted f) numbers at l rest
     → (at < length numbers) × (getD numbers at 0 ≡ length l + 10_000_000) × (map millimetres (drop (at + 1) numbers) ≡ flatMap f l ++ rest)
 count-first f numbers at l rest s = let w = first numbers at (pos (length l)) (flatMap f l ++ rest) s in (w .0, count-held (getD numbers at 0) (length l) (w .1), w .2)
 
 pub room-first : {A : Type 0} (f : A → List ℤ) {e : List A → List Edge} {numbers : List ℕ} {at fill : ℕ} {from to : List ℕ} → Room (counted f) e numbers at fill from to
     → (at < length numbers) × (10_000_000 ≤ getD numbers at 0)
-room-first f {numbers = numbers} {at = at} room = let w = count-first f numbers at (room .thing) (room .rest) (room .stands) in (w .0, omega arith)
+room-first f {numbers = numbers} {at = at} room = let w = count-first f numbers at (room .thing) (room .rest) (room .numbers-at) in (w .0, omega arith)
 
 -- Nothing but the count is read.
 pub going-begin : {A : Type 0} (f : A → List ℤ) (e : List A → List Edge) (numbers : List ℕ) (at fill : ℕ) (from to : List ℕ)
@@ -67,7 +67,7 @@ going-begin f e numbers at fill from to =
       starts = [];
       ends = [];
       stored = stored-none from to fill;
-      reads = λ l rest s. let w = count-first f numbers at l rest s in record { todo = l; many = omega arith; edges = refl; stands = w .2; within = omega arith };
+      reads = λ l rest s. let w = count-first f numbers at l rest s in record { todo = l; many = omega arith; edges = refl; numbers-at = w .2; within = omega arith };
     }
 
 module _ {A : Type 0} {f : A → List ℤ} {numbers : List ℕ} {at fill : ℕ} {from₀ to₀ : List ℕ} where
@@ -75,10 +75,10 @@ module _ {A : Type 0} {f : A → List ℤ} {numbers : List ℕ} {at fill : ℕ} 
   pub going-room : {g : A → List Edge} {from to : List ℕ} {here next left : ℕ} → Room (counted f) (flatMap g) numbers at fill from₀ to₀
       → Going f (flatMap g) numbers at fill from₀ to₀ from to here next left → 0 < left → Room f g numbers here next from to
   unfolding flatMap
-  going-room {g} {from} {to} {here} {next} {left} room w h = go (x .todo) (x .many) (x .edges) (x .stands)
+  going-room {g} {from} {to} {here} {next} {left} room w h = go (x .todo) (x .many) (x .edges) (x .numbers-at)
     where
       x : Left f (flatMap g) numbers here left (pairs (w .starts) (w .ends)) (room .thing) (room .rest)
-      x = w .reads (room .thing) (room .rest) (room .stands)
+      x = w .reads (room .thing) (room .rest) (room .numbers-at)
 
       go : (todo : List A) → length todo ≡ left → pairs (w .starts) (w .ends) ++ flatMap g todo ≡ flatMap g (room .thing)
           → map millimetres (drop here numbers) ≡ flatMap f todo ++ room .rest → Room f g numbers here next from to
@@ -92,7 +92,7 @@ module _ {A : Type 0} {f : A → List ℤ} {numbers : List ℕ} {at fill : ℕ} 
             held = room .held;
             thing = a;
             rest = flatMap f t ++ room .rest;
-            stands = s ∙ append-assoc (f a) (flatMap f t) (room .rest);
+            numbers-at = s ∙ append-assoc (f a) (flatMap f t) (room .rest);
             from-room = omega (arith, room .from-room, w .stored .next-is, from-length (w .stored));
             to-room = omega (arith, room .to-room, w .stored .next-is, to-length (w .stored));
           }
@@ -106,7 +106,7 @@ module _ {A : Type 0} {f : A → List ℤ} {numbers : List ℕ} {at fill : ℕ} 
         starts = w .starts ++ y .starts;
         ends = w .ends ++ y .ends;
         stored = stored-more (w .stored) (y .stored);
-        reads = λ l rest s. let x = w .reads l rest s in go l rest (x .todo) (x .many) (x .edges) (x .stands);
+        reads = λ l rest s. let x = w .reads l rest s in go l rest (x .todo) (x .many) (x .edges) (x .numbers-at);
       }
     where
       go : (l : List A) (rest : List ℤ) (todo : List A) → length todo ≡ left → pairs (w .starts) (w .ends) ++ flatMap g todo ≡ flatMap g l
@@ -118,7 +118,7 @@ module _ {A : Type 0} {f : A → List ℤ} {numbers : List ℕ} {at fill : ℕ} 
             todo = t;
             many = omega arith;
             edges = rw (pairs-++ (w .starts) (w .ends) (y .starts) (y .ends) (w .stored .as-many), z .0, append-assoc) e;
-            stands = z .1;
+            numbers-at = z .1;
             within = z .2;
           }
 
@@ -127,7 +127,7 @@ module _ {A : Type 0} {f : A → List ℤ} {numbers : List ℕ} {at fill : ℕ} 
       → Lays (counted f) (flatMap g) numbers at fill from₀ to₀ from to (record { at = here; fill = next })
   unfolding flatMap
   going-done g {here = here} {left = left} w h =
-      record { starts = w .starts; ends = w .ends; stored = w .stored; reads = λ l rest s. let x = w .reads l rest s in go l rest (x .todo) (x .many) (x .edges) (x .stands) (x .within) }
+      record { starts = w .starts; ends = w .ends; stored = w .stored; reads = λ l rest s. let x = w .reads l rest s in go l rest (x .todo) (x .many) (x .edges) (x .numbers-at) (x .within) }
     where
       go : (l : List A) (rest : List ℤ) (todo : List A) → length todo ≡ left → pairs (w .starts) (w .ends) ++ flatMap g todo ≡ flatMap g l → map millimetres (drop here numbers) ≡ flatMap f todo ++ rest
           → here ≤ length numbers → (pairs (w .starts) (w .ends) ≡ flatMap g l) × (map millimetres (drop here numbers) ≡ rest) × (here ≤ length numbers)
@@ -152,7 +152,7 @@ module _ (numbers : List ℕ) (held : All Held numbers) where
   point-at at = key-of (cornerAt numbers at) (corner-in at) .1
 
 -- A point stands at the place.
-pub point-first : (numbers : List ℕ) (at : ℕ) (p : Point) (rest : List ℤ) → Stands pointNumbers numbers at p rest
+pub point-first : (numbers : List ℕ) (at : ℕ) (p : Point) (rest : List ℤ) → NumbersAt pointNumbers numbers at p rest
     → (at + 1 < length numbers) × (point (cornerAt numbers at) ≡ p) × (map millimetres (drop (at + 2) numbers) ≡ rest)
 point-first numbers at p rest s =
     let v = first numbers at (p .x) (p .y ∷ rest) s in
@@ -164,10 +164,10 @@ module _ {numbers : List ℕ} {at fill : ℕ} {from₀ to₀ from to : List ℕ}
   pub ring-room : Room ringNumbers edges numbers at fill from₀ to₀ → Going pointNumbers edges numbers at fill from₀ to₀ from to here next left → 1 < left
       → (here + 3 < length numbers) × (next < length from) × (next < length to)
   unfolding flatMap
-  ring-room room w h = go (x .todo) (x .many) (x .edges) (x .stands)
+  ring-room room w h = go (x .todo) (x .many) (x .edges) (x .numbers-at)
     where
       x : Left pointNumbers edges numbers here left (pairs (w .starts) (w .ends)) (room .thing) (room .rest)
-      x = w .reads (room .thing) (room .rest) (room .stands)
+      x = w .reads (room .thing) (room .rest) (room .numbers-at)
 
       go : (todo : List Point) → length todo ≡ left → pairs (w .starts) (w .ends) ++ edges todo ≡ edges (room .thing)
           → map millimetres (drop here numbers) ≡ flatMap pointNumbers todo ++ room .rest → (here + 3 < length numbers) × (next < length from) × (next < length to)
@@ -190,7 +190,7 @@ module _ {numbers : List ℕ} {at fill : ℕ} {from₀ to₀ from to : List ℕ}
         starts = w .starts ++ keyOf (cornerAt numbers here) ∷ [];
         ends = w .ends ++ keyOf (cornerAt numbers (here + 2)) ∷ [];
         stored = stored-more (w .stored) (stored-one from to next (keyOf (cornerAt numbers here)) (keyOf (cornerAt numbers (here + 2))) (key-at numbers held here) (key-at numbers held (here + 2)));
-        reads = λ l rest s. let x = w .reads l rest s in go l rest (x .todo) (x .many) (x .edges) (x .stands);
+        reads = λ l rest s. let x = w .reads l rest s in go l rest (x .todo) (x .many) (x .edges) (x .numbers-at);
       }
     where
       go : (l : List Point) (rest : List ℤ) (todo : List Point) → length todo ≡ left → pairs (w .starts) (w .ends) ++ edges todo ≡ edges l → map millimetres (drop here numbers) ≡ flatMap pointNumbers todo ++ rest
@@ -205,7 +205,7 @@ module _ {numbers : List ℕ} {at fill : ℕ} {from₀ to₀ from to : List ℕ}
             todo = q ∷ t;
             many = omega arith;
             edges = rw (joined, point-at numbers held here ∙ u .1, point-at numbers held (here + 2) ∙ v .1, append-assoc) e;
-            stands = u .2;
+            numbers-at = u .2;
             within = omega arith;
           }
 
@@ -214,7 +214,7 @@ module _ {numbers : List ℕ} {at fill : ℕ} {from₀ to₀ from to : List ℕ}
       → Lays ringNumbers edges numbers at fill from₀ to₀ from to (record { at = here + 2 * left; fill = next })
   unfolding flatMap
   ring-done w h =
-      record { starts = w .starts; ends = w .ends; stored = w .stored; reads = λ l rest s. let x = w .reads l rest s in go l rest (x .todo) (x .many) (x .edges) (x .stands) (x .within) }
+      record { starts = w .starts; ends = w .ends; stored = w .stored; reads = λ l rest s. let x = w .reads l rest s in go l rest (x .todo) (x .many) (x .edges) (x .numbers-at) (x .within) }
     where
       go : (l : List Point) (rest : List ℤ) (todo : List Point) → length todo ≡ left → pairs (w .starts) (w .ends) ++ edges todo ≡ edges l → map millimetres (drop here numbers) ≡ flatMap pointNumbers todo ++ rest
           → here ≤ length numbers → (pairs (w .starts) (w .ends) ≡ edges l) × (map millimetres (drop (here + 2 * left) numbers) ≡ rest) × (here + 2 * left ≤ length numbers)
@@ -248,7 +248,7 @@ lays-down {numbers} {at} {from₀} {to₀} {from} {to} {r} room w =
     many m e = omega (arith, w .stored .next-is, ap length e, pairs-length (w .starts) (w .ends) (w .stored .as-many))
 
     all : r .fill ≡ length (memberEdges (room .thing))
-    all = many (room .thing) (w .reads (room .thing) (room .rest) (room .stands) .0)
+    all = many (room .thing) (w .reads (room .thing) (room .rest) (room .numbers-at) .0)
 
     f : (take (r .fill) from ≡ w .starts) × (drop (r .fill) from ≡ drop (r .fill) from₀)
     f = front from₀ from (w .starts) (r .fill) (w .stored .from-is) (omega (arith, w .stored .next-is)) (omega (arith, all, w .stored .next-is, room .from-room))

@@ -15,8 +15,8 @@ use Rattle.sheet_form.specs.Numbers.{memberNumbers}
 use Rattle.sheet_edges.specs.declared.Laid.{Laid}
 
 -- The numbers form of a thing stands in the held numbers at a place, and rest behind it.
-abbrev pub Stands : {A : Type 0} → (A → List ℤ) → List ℕ → ℕ → A → List ℤ → Type 0
-Stands f numbers at a rest = map millimetres (drop at numbers) ≡ f a ++ rest
+abbrev pub NumbersAt : {A : Type 0} → (A → List ℤ) → List ℕ → ℕ → A → List ℤ → Type 0
+NumbersAt f numbers at a rest = map millimetres (drop at numbers) ≡ f a ++ rest
 
 -- The corner whose two coordinates stand at a place.
 abbrev pub cornerAt : List ℕ → ℕ → Corner
@@ -27,7 +27,7 @@ pub record Room {A : Type 0} (f : A → List ℤ) (e : A → List Edge) (numbers
   pub held : All Held numbers
   pub thing : A
   pub rest : List ℤ
-  pub stands : Stands f numbers at thing rest
+  pub numbers-at : NumbersAt f numbers at thing rest
   pub from-room : fill + length (e thing) ≤ length from
   pub to-room : fill + length (e thing) ≤ length to
 
@@ -45,15 +45,15 @@ pub record Lays {A : Type 0} (f : A → List ℤ) (e : A → List Edge) (numbers
   pub starts : List ℕ
   pub ends : List ℕ
   pub stored : Stored from₀ to₀ fill starts ends from to (r .fill)
-  pub reads : (a : A) (rest : List ℤ) → Stands f numbers at a rest → (pairs starts ends ≡ e a) × (map millimetres (drop (r .at) numbers) ≡ rest) × (r .at ≤ length numbers)
+  pub reads : (a : A) (rest : List ℤ) → NumbersAt f numbers at a rest → (pairs starts ends ≡ e a) × (map millimetres (drop (r .at) numbers) ≡ rest) × (r .at ≤ length numbers)
 
 -- Of the polygon that stands at the place, whichever it is, the edges are laid down at the front of both lists, and r has their number and the place behind the polygon.
 -- Behind the edges both lists are as they were.
 pub record LaysDown (numbers : List ℕ) (at : ℕ) (from₀ to₀ from to : List ℕ) (r : Laid) : Type 0 where
-  pub many : (m : Member) (rest : List ℤ) → Stands memberNumbers numbers at m rest → r .fill ≡ length (memberEdges m)
-  pub edges : (m : Member) (rest : List ℤ) → Stands memberNumbers numbers at m rest → pairs (take (r .fill) from) (take (r .fill) to) ≡ memberEdges m
-  pub behind : (m : Member) (rest : List ℤ) → Stands memberNumbers numbers at m rest → map millimetres (drop (r .at) numbers) ≡ rest
-  pub within : (m : Member) (rest : List ℤ) → Stands memberNumbers numbers at m rest → r .at ≤ length numbers
+  pub many : (m : Member) (rest : List ℤ) → NumbersAt memberNumbers numbers at m rest → r .fill ≡ length (memberEdges m)
+  pub edges : (m : Member) (rest : List ℤ) → NumbersAt memberNumbers numbers at m rest → pairs (take (r .fill) from) (take (r .fill) to) ≡ memberEdges m
+  pub behind : (m : Member) (rest : List ℤ) → NumbersAt memberNumbers numbers at m rest → map millimetres (drop (r .at) numbers) ≡ rest
+  pub within : (m : Member) (rest : List ℤ) → NumbersAt memberNumbers numbers at m rest → r .at ≤ length numbers
   pub from-keys : All Key (take (r .fill) from)
   pub to-keys : All Key (take (r .fill) to)
   pub from-behind : drop (r .fill) from ≡ drop (r .fill) from₀

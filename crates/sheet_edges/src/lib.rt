@@ -10,7 +10,7 @@ ghost use Rattle.plane.specs.Members.{edges, memberEdges};
 ghost use Rattle.plane.specs.Keys.{Held, keyOf, Key};
 ghost use Rattle.table.specs.Sides.{trianglesOf};
 ghost use Rattle.sheet_form.specs.Numbers.{counted, triangleNumbers, ringNumbers, partNumbers, memberNumbers};
-ghost use Rattle.sheet_edges.specs.Standing.{Stands, cornerAt, Room, Lays, LaysDown};
+ghost use Rattle.sheet_edges.specs.Standing.{NumbersAt, cornerAt, Room, Lays, LaysDown};
 use plane::Corner;
 use plane::OFFSET;
 
@@ -88,8 +88,8 @@ pub fn polygon(numbers: &[u32], at: usize, from: &mut [u64], to: &mut [u64]) -> 
 
 // Lays down the corners of the table, which stands at the front of the numbers.
 pub fn corners(numbers: &[u32], keys: &mut [u64])
-    requires { ⌜ All Held (now numbers) × ((table : List Triangle) × (rest : List ℤ) × Stands (counted triangleNumbers) (now numbers) 0 table rest × (length (now keys) ≡ 3 * length table)) ⌝ }
-    ensures { λ _. ⌜ ((table : List Triangle) (rest : List ℤ) → Stands (counted triangleNumbers) (now (numbers .entry)) 0 table rest → length (now (keys .entry)) ≡ 3 * length table
+    requires { ⌜ All Held (now numbers) × ((table : List Triangle) × (rest : List ℤ) × NumbersAt (counted triangleNumbers) (now numbers) 0 table rest × (length (now keys) ≡ 3 * length table)) ⌝ }
+    ensures { λ _. ⌜ ((table : List Triangle) (rest : List ℤ) → NumbersAt (counted triangleNumbers) (now (numbers .entry)) 0 table rest → length (now (keys .entry)) ≡ 3 * length table
         → trianglesOf (now (keys .exit)) ≡ table)
         × All Key (now (keys .exit)) × (length (now (keys .exit)) ≡ length (now (keys .entry))) ⌝ }
 {

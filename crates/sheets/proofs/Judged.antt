@@ -11,7 +11,7 @@ use Rattle.sheet_form.specs.Numbers.{Sheet}
 use Rattle.judged_sets.specs.declared.Owning.{Owning}
 use Rattle.judged_sets.specs.declared.Owning.the-variants.{Refused}
 use Rattle.judged.specs.Judged.{judgedSheet}
-use Rattle.judged.specs.Held.{Stands, JudgedAs}
+use Rattle.judged.specs.Held.{JudgedHeld, JudgedAs}
 use Rattle.judged.proofs.Standing.{refused-is, sets-many, pairs}
 use Rattle.outcomes.specs.Entries.{onJudged}
 use Rattle.outcomes.proofs.Judged.{refused-on}
@@ -20,7 +20,7 @@ module _ (next : Sheet → List ℕ → Outcome) (s lent : List ℕ) (r : Owning
   pub refused : {code item : ℕ} → r ≡ Refused code item → Answered (onJudged next (judgedSheet s)) lent (item * 256 + code) lent
   refused {code} {item} q = answered-refusal _ lent code item (refused-on next s code item (refused-is s r numbers opposite l e code item q))
 
-module _ {s : List ℕ} {t : ℕ} {numbers opposite l : List ℕ} (w : Stands s t numbers opposite l) where
+module _ {s : List ℕ} {t : ℕ} {numbers opposite l : List ℕ} (w : JudgedHeld s t numbers opposite l) where
   pub sets-fit : t ≤ length l
   sets-fit = omega (arith, sets-many w, length-take t l)
 

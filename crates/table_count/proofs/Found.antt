@@ -14,7 +14,7 @@ use Rattle.plane.specs.Boundaries.{boundary}
 use Rattle.plane.specs.Keys.{pair}
 use Rattle.table.specs.Opposites.{foundAt}
 use Rattle.table.proofs.Shares.{Found, found-at}
-use Rattle.whole_order.specs.Ascending.{Ascending, Stands, placeOf}
+use Rattle.whole_order.specs.Ascending.{Ascending, IsIn, placeOf}
 use Rattle.whole_order.proofs.Ascending.{place-of}
 use Rattle.table_sides.specs.Codes.{numberIn}
 use Rattle.table_count.specs.Counting.{sideOf, piecesOf, Earlier, Tallied, Seen, Stray, directed}
@@ -24,7 +24,7 @@ use Rattle.table_count.proofs.Counted.{tallied-stray}
 -- ---- corners
 -- A corner's number is one more than its place.
 pub record Ranked (corners : List ℕ) (u : ℕ) : Type 0 where
-  pub stands : Stands u corners
+  pub stands : IsIn u corners
   pub place : numberIn u corners ≡ suc (placeOf u corners)
   pub within : placeOf u corners < length corners
 
@@ -34,7 +34,7 @@ ranked corners u order n =
     let p : placeOf u corners ≡ s .0 = sym (ap (λ z. placeOf z corners) (s .2)) ∙ place-of corners (s .0) order (s .1) in
     record { stands = s; place = ap (λ z. numberIn z corners) (sym (s .2)) ∙ number-at corners (s .0) order (s .1) ∙ ap suc (sym p); within = omega (arith, s .1) }
 
-pub not-ranked : (corners : List ℕ) (u : ℕ) → Ascending corners → numberIn u corners ≡ 0 → Stands u corners → ⊥
+pub not-ranked : (corners : List ℕ) (u : ℕ) → Ascending corners → numberIn u corners ≡ 0 → IsIn u corners → ⊥
 not-ranked corners u order e s = omega (arith, number-at corners (s .0) order (s .1), ap (λ z. numberIn z corners) (s .2))
 
 -- ---- sides

@@ -15,7 +15,7 @@ use Rattle.plane.specs.Keys.{pointAt, pointsAt}
 use Rattle.plane.proofs.Points.{samePoint-eq, samePoint-refl}
 use Rattle.plane.proofs.Keys.{pointAt-injective, any-among}
 use Rattle.table.specs.Opposites.{later}
-use Rattle.whole_order.specs.Ascending.{Ascending, Stands}
+use Rattle.whole_order.specs.Ascending.{Ascending, IsIn}
 use Rattle.table_sides.specs.Codes.{numberIn}
 use Rattle.table_count.specs.Counting.{isCorner}
 
@@ -28,7 +28,7 @@ number-at (y ∷ l) (suc i) a h =
     rw (ne-eqb y (getD l i 0) (λ e. absurd (omega arith)), number-at l i (a .1) (omega arith))
 
 -- What is no corner has number 0;
-pub number-none : (x : ℕ) (l : List ℕ) → (Stands x l → ⊥) → numberIn x l ≡ 0
+pub number-none : (x : ℕ) (l : List ℕ) → (IsIn x l → ⊥) → numberIn x l ≡ 0
 number-none x [] n = refl
 number-none x (y ∷ l) n = rw (ne-eqb y x (λ e. n (0, omega arith, e)), number-none x l (λ s. n (suc (s .0), omega arith, s .2)))
 
@@ -37,11 +37,11 @@ later-above : (n : ℕ) → 0 < later n → 0 < n
 later-above zero h = h
 later-above (suc n) h = omega arith
 
-pub number-stands : (x : ℕ) (l : List ℕ) → 0 < numberIn x l → Stands x l
+pub number-stands : (x : ℕ) (l : List ℕ) → 0 < numberIn x l → IsIn x l
 number-stands x [] h = absurd (omega arith)
 number-stands x (y ∷ l) h = go (eqb y x) refl (number-stands x l) h
   where
-    go : (b : Bool) → eqb y x ≡ b → (0 < numberIn x l → Stands x l) → 0 < cond b 1 (later (numberIn x l)) → Stands x (y ∷ l)
+    go : (b : Bool) → eqb y x ≡ b → (0 < numberIn x l → IsIn x l) → 0 < cond b 1 (later (numberIn x l)) → IsIn x (y ∷ l)
     go true e r h = (0, omega arith, eqb-true y x e)
     go false e r h = let s = r (later-above (numberIn x l) h) in (suc (s .0), omega arith, s .2)
 
@@ -72,17 +72,17 @@ corner-any (y ∷ l) u = go (eqb y u) (samePoint (pointAt u) (pointAt y)) (same-
     go false false e r = later-test (numberIn u l) ∙ r
 
 -- A number that stands among the corners is a point among their points, and the other way round.
-pub stands-among : (corners : List ℕ) (u : ℕ) → Stands u corners → Among samePoint (pointAt u) (pointsAt corners)
+pub stands-among : (corners : List ℕ) (u : ℕ) → IsIn u corners → Among samePoint (pointAt u) (pointsAt corners)
 stands-among [] u s = absurd (omega arith)
 stands-among (y ∷ l) u s = any-among (pointAt u) (pointsAt (y ∷ l)) .0 (go (s .0) (s .1) (s .2) (samePoint (pointAt u) (pointAt y)) refl (λ t. any-among (pointAt u) (pointsAt l) .1 (stands-among l u t)))
   where
-    go : (i : ℕ) → i < suc (length l) → getD (y ∷ l) i 0 ≡ u → (b : Bool) → samePoint (pointAt u) (pointAt y) ≡ b → (Stands u l → T (any (samePoint (pointAt u)) (pointsAt l)))
+    go : (i : ℕ) → i < suc (length l) → getD (y ∷ l) i 0 ≡ u → (b : Bool) → samePoint (pointAt u) (pointAt y) ≡ b → (IsIn u l → T (any (samePoint (pointAt u)) (pointsAt l)))
         → T (elim b [ true ↦ true | false ↦ any (samePoint (pointAt u)) (pointsAt l) ])
     go i h e true q r = tt
     go zero h e false q r = absurd (subst T q (subst (λ z. T (samePoint (pointAt u) (pointAt z))) (sym e) (samePoint-refl (pointAt u))))
     go (suc i) h e false q r = r (i, omega arith, e)
 
-pub among-stands : (corners : List ℕ) (u : ℕ) → Among samePoint (pointAt u) (pointsAt corners) → Stands u corners
+pub among-stands : (corners : List ℕ) (u : ℕ) → Among samePoint (pointAt u) (pointsAt corners) → IsIn u corners
 among-stands corners u h = number-stands u corners
     (ltb-true 0 (numberIn u corners) (sure (isCorner corners u) (subst T (sym (corner-any corners u)) (any-among (pointAt u) (pointsAt corners) .1 h))))
   where

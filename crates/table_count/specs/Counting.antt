@@ -14,7 +14,7 @@ use Rattle.plane.specs.Boundaries.{boundary}
 use Rattle.plane.specs.Keys.{pointAt, Key, pair, pairs, pointsAt}
 use Rattle.table.specs.Sides.{netOf}
 use Rattle.table.specs.Opposites.{foundAt}
-use Rattle.whole_order.specs.Ascending.{Ascending, Stands}
+use Rattle.whole_order.specs.Ascending.{Ascending, IsIn}
 use Rattle.table_sides.specs.Codes.{codeOf, indexOf, numberIn}
 
 -- ---- how corners and sides are looked up
@@ -33,9 +33,9 @@ pub record Looked (sides : List Edge) (corners index : List ℕ) : Type 0 where
   pub few : length corners ≤ 3072
   pub in-range : All Key corners
   pub once : (j k : ℕ) → j < length sides → k < length sides → sideOf sides j ≡ sideOf sides k → j ≡ k
-  pub found : (u v : ℕ) → Stands u corners → Stands v corners → numberIn (codeOf corners u v) codes ≡ foundAt (pair u v) sides
-  pub no-from : (u v : ℕ) → (Stands u corners → ⊥) → foundAt (pair u v) sides ≡ 0
-  pub no-to : (u v : ℕ) → (Stands v corners → ⊥) → foundAt (pair u v) sides ≡ 0
+  pub found : (u v : ℕ) → IsIn u corners → IsIn v corners → numberIn (codeOf corners u v) codes ≡ foundAt (pair u v) sides
+  pub no-from : (u v : ℕ) → (IsIn u corners → ⊥) → foundAt (pair u v) sides ≡ 0
+  pub no-to : (u v : ℕ) → (IsIn v corners → ⊥) → foundAt (pair u v) sides ≡ 0
 
 -- ---- the pieces of an edge, one after the other
 -- r is the place of the first corner from `at` on that is strictly between u and v; the number of corners where there is none.

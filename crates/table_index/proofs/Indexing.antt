@@ -16,7 +16,7 @@ use Rattle.table.specs.Opposites.{foundAt, opposites}
 use Rattle.table.proofs.Shares.{sides-pairs, length-tails, length-sides, side-at, side-once}
 use Rattle.table.proofs.Faults.{first-repeat-is}
 use Rattle.table.proofs.Bounds.{corners-points}
-use Rattle.whole_order.specs.Ascending.{Stands, ascending}
+use Rattle.whole_order.specs.Ascending.{IsIn, ascending}
 use Rattle.whole_order.proofs.Ascending.{ascending-is, ascending-has, length-ascending, all-ascending}
 use Rattle.table_sides.specs.Codes.{codesOf, indexOf, turnedIn}
 use Rattle.table_sides.proofs.Looked.{tails-stand, length-codes, codes-below, found-code, not-found-from, not-found-to, opposites-are, codes-tell}
@@ -41,7 +41,7 @@ module _ (keys : List ℕ) (n : ℕ) (three : length keys ≡ 3 * n) (few : leng
   same-points : (c : Point) → Among samePoint c (pointsAt (ascending keys)) ↔ Among samePoint c (corners (trianglesOf keys))
   same-points c = rw (corners-points n keys three) (to, from)
     where
-      moved : (k l : List ℕ) → ((x : ℕ) → Stands x k → Stands x l) → Among samePoint c (pointsAt k) → Among samePoint c (pointsAt l)
+      moved : (k l : List ℕ) → ((x : ℕ) → IsIn x k → IsIn x l) → Among samePoint c (pointsAt k) → Among samePoint c (pointsAt l)
       moved k l f a =
           let w = among-corner k c a in
           let s = f (getD k (w .0) 0) (w .0, w .1, refl) in

@@ -16,7 +16,7 @@ use Rattle.plane.proofs.Points.{sameEdge-eq, sameEdge-refl}
 use Rattle.plane.proofs.Keys.{pointAt-injective}
 use Rattle.table.specs.Sides.{tailsOf}
 use Rattle.table.specs.Opposites.{later, foundAt, opposites}
-use Rattle.whole_order.specs.Ascending.{Ascending, Stands, placeOf, ascending}
+use Rattle.whole_order.specs.Ascending.{Ascending, IsIn, placeOf, ascending}
 use Rattle.whole_order.proofs.Ascending.{ascending-is, ascending-has, length-ascending, place-found}
 use Rattle.table_sides.specs.Codes.{codeOf, turned, codesOf, numberIn, turnedIn}
 
@@ -26,25 +26,25 @@ pair-injective : (u v u′ v′ : ℕ) → pair u v ≡ pair u′ v′ → (u �
 pair-injective u v u′ v′ e = (pointAt-injective u u′ (ap (λ d. d .from) e), pointAt-injective v v′ (ap (λ d. d .to) e))
 
 -- ---- the corners at which sides end
-pub tails-stand : (keys : List ℕ) → All (λ v. Stands v keys) (tailsOf keys)
+pub tails-stand : (keys : List ℕ) → All (λ v. IsIn v keys) (tailsOf keys)
 tails-stand [] = tt
 tails-stand (a ∷ []) = tt
 tails-stand (a ∷ b ∷ []) = tt
 tails-stand (a ∷ b ∷ c ∷ l) = (
   (1, omega arith, refl),
-  ((2, omega arith, refl), ((0, omega arith, refl), all-map (λ v. Stands v l) (λ v. Stands v (a ∷ b ∷ c ∷ l)) (λ v s. (suc (suc (suc (s .0))), omega (arith, s .1), s .2)) (tailsOf l) (tails-stand l))),
+  ((2, omega arith, refl), ((0, omega arith, refl), all-map (λ v. IsIn v l) (λ v. IsIn v (a ∷ b ∷ c ∷ l)) (λ v s. (suc (suc (suc (s .0))), omega (arith, s .1), s .2)) (tailsOf l) (tails-stand l))),
 )
 
 -- ---- codes, by any ascending corners
 module _ (corners : List ℕ) (order : Ascending corners) (few : length corners ≤ 4096) where
-  place-few : (u : ℕ) → Stands u corners → placeOf u corners < 4096
+  place-few : (u : ℕ) → IsIn u corners → placeOf u corners < 4096
   place-few u s = omega (arith, place-found corners u order s .0)
 
-  place-injective : (u v : ℕ) → Stands u corners → Stands v corners → placeOf u corners ≡ placeOf v corners → u ≡ v
+  place-injective : (u v : ℕ) → IsIn u corners → IsIn v corners → placeOf u corners ≡ placeOf v corners → u ≡ v
   place-injective u v s t e = sym (place-found corners u order s .1) ∙ ap (λ p. getD corners p 0) e ∙ place-found corners v order t .1
 
   -- A code is of one pair of corners only,
-  pub codeOf-injective : (u v u′ v′ : ℕ) → Stands u corners → Stands v corners → Stands u′ corners → Stands v′ corners
+  pub codeOf-injective : (u v u′ v′ : ℕ) → IsIn u corners → IsIn v corners → IsIn u′ corners → IsIn v′ corners
       → codeOf corners u v ≡ codeOf corners u′ v′ → (u ≡ u′) × (v ≡ v′)
   codeOf-injective u v u′ v′ s t s′ t′ e =
       let p = place-few v t in
@@ -52,11 +52,11 @@ module _ (corners : List ℕ) (order : Ascending corners) (few : length corners 
       (place-injective u u′ s s′ (omega arith), place-injective v v′ t t′ (omega arith))
 
   -- is below 2^24,
-  pub codeOf-below : (u v : ℕ) → Stands u corners → Stands v corners → codeOf corners u v < 2 ^ 24
+  pub codeOf-below : (u v : ℕ) → IsIn u corners → IsIn v corners → codeOf corners u v < 2 ^ 24
   codeOf-below u v s t = omega (arith, place-few u s, place-few v t)
 
   -- and turned it is the code of the reverse.
-  pub turned-code : (u v : ℕ) → Stands u corners → Stands v corners → turned (codeOf corners u v) ≡ codeOf corners v u
+  pub turned-code : (u v : ℕ) → IsIn u corners → IsIn v corners → turned (codeOf corners u v) ≡ codeOf corners v u
   turned-code u v s t =
       let p = place-few u s in
       let q = place-few v t in
@@ -64,7 +64,7 @@ module _ (corners : List ℕ) (order : Ascending corners) (few : length corners 
       let m : codeOf corners u v % 4096 ≡ placeOf v corners = omega arith in
       ap₂ (λ m d. m * 4096 + d) m d
 
-  same-code : (u v u′ v′ : ℕ) → Stands u corners → Stands v corners → Stands u′ corners → Stands v′ corners
+  same-code : (u v u′ v′ : ℕ) → IsIn u corners → IsIn v corners → IsIn u′ corners → IsIn v′ corners
       → eqb (codeOf corners u v) (codeOf corners u′ v′) ≡ sameEdge (pair u v) (pair u′ v′)
   same-code u v u′ v′ s t s′ t′ = bool-iff (eqb (codeOf corners u v) (codeOf corners u′ v′)) (sameEdge (pair u v) (pair u′ v′)) to from
     where
@@ -78,19 +78,19 @@ module _ (corners : List ℕ) (order : Ascending corners) (few : length corners 
           let e = pair-injective u v u′ v′ (sameEdge-eq (pair u v) (pair u′ v′) b) in
           subst (λ d. T (eqb (codeOf corners u v) d)) (ap₂ (codeOf corners) (e .0) (e .1)) (eqb-refl (codeOf corners u v))
 
-  below : (k l : List ℕ) → All (λ u. Stands u corners) k → All (λ v. Stands v corners) l → All (λ c. c < 2 ^ 24) (codesOf corners k l)
+  below : (k l : List ℕ) → All (λ u. IsIn u corners) k → All (λ v. IsIn v corners) l → All (λ c. c < 2 ^ 24) (codesOf corners k l)
   below [] l s t = tt
   below (u ∷ k) [] s t = tt
   below (u ∷ k) (v ∷ l) s t = (codeOf-below u v (s .0) (t .0), below k l (s .1) (t .1))
 
-  found : (k l : List ℕ) → All (λ u. Stands u corners) k → All (λ v. Stands v corners) l
-      → (u v : ℕ) → Stands u corners → Stands v corners → numberIn (codeOf corners u v) (codesOf corners k l) ≡ foundAt (pair u v) (pairs k l)
+  found : (k l : List ℕ) → All (λ u. IsIn u corners) k → All (λ v. IsIn v corners) l
+      → (u v : ℕ) → IsIn u corners → IsIn v corners → numberIn (codeOf corners u v) (codesOf corners k l) ≡ foundAt (pair u v) (pairs k l)
   found [] l s t u v p q = refl
   found (x ∷ k) [] s t u v p q = refl
   found (x ∷ k) (y ∷ l) s t u v p q = ap₂ (λ b n. cond b 1 (later n)) (same-code x y u v (s .0) (t .0) p q) (found k l (s .1) (t .1) u v p q)
 
-  all-turned : (codes : List ℕ) (sides : List Edge) → ((u v : ℕ) → Stands u corners → Stands v corners → numberIn (codeOf corners u v) codes ≡ foundAt (pair u v) sides)
-      → (k l : List ℕ) → All (λ u. Stands u corners) k → All (λ v. Stands v corners) l
+  all-turned : (codes : List ℕ) (sides : List Edge) → ((u v : ℕ) → IsIn u corners → IsIn v corners → numberIn (codeOf corners u v) codes ≡ foundAt (pair u v) sides)
+      → (k l : List ℕ) → All (λ u. IsIn u corners) k → All (λ v. IsIn v corners) l
       → map (λ c. numberIn (turned c) codes) (codesOf corners k l) ≡ map (λ e. foundAt (flip e) sides) (pairs k l)
   all-turned codes sides f [] l s t = refl
   all-turned codes sides f (u ∷ k) [] s t = refl
@@ -124,15 +124,15 @@ other-second (x ∷ k) [] u v n = refl
 other-second (x ∷ k) (y ∷ l) u v n = ap₂ (λ b m. cond b 1 (later m)) (unlike x y u v (λ e. n .0 (e .1))) (other-second k l u v (n .1))
 
 -- ---- the sides of a table, by its corners in ascending order
-module _ (keys tails : List ℕ) (stand : All (λ v. Stands v keys) tails) (few : length keys ≤ 3072) where
-  in-order : (u : ℕ) → Stands u keys → Stands u (ascending keys)
+module _ (keys tails : List ℕ) (stand : All (λ v. IsIn v keys) tails) (few : length keys ≤ 3072) where
+  in-order : (u : ℕ) → IsIn u keys → IsIn u (ascending keys)
   in-order u = ascending-has keys u .1
 
-  keys-stand : All (λ u. Stands u (ascending keys)) keys
-  keys-stand = all-from (λ u. Stands u (ascending keys)) 0 keys (λ i h. in-order (getD keys i 0) (i, h, refl))
+  keys-stand : All (λ u. IsIn u (ascending keys)) keys
+  keys-stand = all-from (λ u. IsIn u (ascending keys)) 0 keys (λ i h. in-order (getD keys i 0) (i, h, refl))
 
-  ends-stand : All (λ v. Stands v (ascending keys)) tails
-  ends-stand = all-map (λ v. Stands v keys) (λ v. Stands v (ascending keys)) in-order tails stand
+  ends-stand : All (λ v. IsIn v (ascending keys)) tails
+  ends-stand = all-map (λ v. IsIn v keys) (λ v. IsIn v (ascending keys)) in-order tails stand
 
   few-corners : length (ascending keys) ≤ 4096
   few-corners = omega (arith, length-ascending keys)
@@ -141,16 +141,16 @@ module _ (keys tails : List ℕ) (stand : All (λ v. Stands v keys) tails) (few 
   codes-below = below (ascending keys) (ascending-is keys) few-corners keys tails keys-stand ends-stand
 
   -- The code of two corners is found where their pair is.
-  pub found-code : (u v : ℕ) → Stands u (ascending keys) → Stands v (ascending keys)
+  pub found-code : (u v : ℕ) → IsIn u (ascending keys) → IsIn v (ascending keys)
       → numberIn (codeOf (ascending keys) u v) (codesOf (ascending keys) keys tails) ≡ foundAt (pair u v) (pairs keys tails)
   found-code = found (ascending keys) (ascending-is keys) few-corners keys tails keys-stand ends-stand
 
   -- A pair with a point that is not a corner is not found.
-  pub not-found-from : (u v : ℕ) → (Stands u keys → ⊥) → foundAt (pair u v) (pairs keys tails) ≡ 0
+  pub not-found-from : (u v : ℕ) → (IsIn u keys → ⊥) → foundAt (pair u v) (pairs keys tails) ≡ 0
   not-found-from u v n = other-first keys tails u v (all-from (λ x. x ≡ u → ⊥) 0 keys (λ i h e. n (i, h, e)))
 
-  pub not-found-to : (u v : ℕ) → (Stands v keys → ⊥) → foundAt (pair u v) (pairs keys tails) ≡ 0
-  not-found-to u v n = other-second keys tails u v (all-map (λ y. Stands y keys) (λ y. y ≡ v → ⊥) (λ y s e. n (subst (λ x. Stands x keys) e s)) tails stand)
+  pub not-found-to : (u v : ℕ) → (IsIn v keys → ⊥) → foundAt (pair u v) (pairs keys tails) ≡ 0
+  not-found-to u v n = other-second keys tails u v (all-map (λ y. IsIn y keys) (λ y. y ≡ v → ⊥) (λ y s e. n (subst (λ x. IsIn x keys) e s)) tails stand)
 
   -- The code turned is found where the reverse of the side is.
   pub opposites-are : turnedIn (codesOf (ascending keys) keys tails) ≡ opposites (pairs keys tails)
@@ -163,8 +163,8 @@ module _ (keys tails : List ℕ) (stand : All (λ v. Stands v keys) tails) (few 
   codes-tell same j k h g = (
     λ e.
         let i = codeOf-injective (ascending keys) (ascending-is keys) few-corners (getD keys j 0) (getD tails j 0) (getD keys k 0) (getD tails k 0)
-        (all-at (λ u. Stands u (ascending keys)) 0 keys j keys-stand h) (all-at (λ v. Stands v (ascending keys)) 0 tails j ends-stand (omega arith))
-        (all-at (λ u. Stands u (ascending keys)) 0 keys k keys-stand g) (all-at (λ v. Stands v (ascending keys)) 0 tails k ends-stand (omega arith))
+        (all-at (λ u. IsIn u (ascending keys)) 0 keys j keys-stand h) (all-at (λ v. IsIn v (ascending keys)) 0 tails j ends-stand (omega arith))
+        (all-at (λ u. IsIn u (ascending keys)) 0 keys k keys-stand g) (all-at (λ v. IsIn v (ascending keys)) 0 tails k ends-stand (omega arith))
         (sym (codes-at (ascending keys) keys tails j same h) ∙ e ∙ codes-at (ascending keys) keys tails k same g) in
         ap₂ pair (i .0) (i .1),
     λ e.

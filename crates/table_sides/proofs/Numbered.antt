@@ -9,7 +9,7 @@ use native.Mathlib.Decide.{ℕ-discrete, decLe}
 use borrow.Author.Tests.{ltb-true, ltb-false, eq-eqb, ne-eqb}
 use lib.Dec.{ltb}
 use lib.ListN.{length, getD}
-use Rattle.whole_order.specs.Ascending.{Ascending, Stands, Distinct, placeOf, ascending}
+use Rattle.whole_order.specs.Ascending.{Ascending, IsIn, Distinct, placeOf, ascending}
 use Rattle.whole_order.proofs.Ascending.{ascending-is, ascending-has, ascending-below, ascending-distinct, place-below, place-above, place-up-to}
 use Rattle.table_sides.specs.Codes.{numberedFrom, indexOf, sideIn, numberIn}
 
@@ -47,7 +47,7 @@ index-from codes p h =
     let s = ascending-has (numberedFrom 0 codes) (getD (ascending (numberedFrom 0 codes)) p 0) .0 (p, h, refl) in
     (s .0, omega (arith, s .1), omega (arith, s .2, numbered-at 0 codes (s .0) (omega (arith, s .1))))
 
-index-to : (codes : List ℕ) (j : ℕ) → j < length codes → Stands (getD codes j 0 * 4096 + j) (indexOf codes)
+index-to : (codes : List ℕ) (j : ℕ) → j < length codes → IsIn (getD codes j 0 * 4096 + j) (indexOf codes)
 unfolding indexOf
 index-to codes j h =
     let n = length-numbered 0 codes in
@@ -107,8 +107,8 @@ module _ (codes : List ℕ) (few : length codes ≤ 4096) (c : ℕ) where
   abbrev place : ℕ
   place = placeOf (c * 4096) (indexOf codes)
 
-  entry : (j : ℕ) → j < length codes → getD codes j 0 ≡ c → Stands (c * 4096 + j) (indexOf codes)
-  entry j h e = subst (λ x. Stands (x * 4096 + j) (indexOf codes)) e (index-to codes j h)
+  entry : (j : ℕ) → j < length codes → getD codes j 0 ≡ c → IsIn (c * 4096 + j) (indexOf codes)
+  entry j h e = subst (λ x. IsIn (x * 4096 + j) (indexOf codes)) e (index-to codes j h)
 
   first-there : place < length (indexOf codes) → getD (indexOf codes) place 0 / 4096 ≡ c → getD (indexOf codes) place 0 % 4096 + 1 ≡ numberIn c codes
   first-there h e =

@@ -23,7 +23,7 @@ room c = let p = start (polygon-call c) .pre in laid-room (polygon-call c .polyg
 polygon-requires : tie.Need-polygon-requires
 polygon-requires c κs =
     let p = c .before .before .before .before .before .before .before .before .before .before .before .pre in
-    record { held = p .1; thing = p .2 .0; rest = p .2 .1; stands = p .2 .2 .stands; from-room = omega (arith, p .2 .2 .few, p .3); to-room = omega (arith, p .2 .2 .few, p .4) }
+    record { held = p .1; thing = p .2 .0; rest = p .2 .1; numbers-at = p .2 .2 .numbers-at; from-room = omega (arith, p .2 .2 .few, p .3); to-room = omega (arith, p .2 .2 .few, p .4) }
 
 judge-requires : tie.Need-judge-requires
 judge-requires c κs =
@@ -35,7 +35,7 @@ returns : tie.Need-returns
 returns c = λ keys m rest w q n s.
     let j = c .before .before .before .before in
     let d = polygon-call (j .before .before .before .before .before) .polygon .ensures in
-    record { judged = j .judge .ensures keys m w q n (d .edges m rest (s .stands)); behind = d .behind m rest (s .stands) }
+    record { judged = j .judge .ensures keys m w q n (d .edges m rest (s .numbers-at)); behind = d .behind m rest (s .numbers-at) }
 
 pub judge-at-spec : {M : Type 1} → statement M
 judge-at-spec =

@@ -1,4 +1,4 @@
--- `little::put` meets its contract. The invariant: to write the bytes that are left is to write them all. Assumes nothing.
+-- `lent_little::put` meets its contract. The invariant: to write the bytes that are left is to write them all. Assumes nothing.
 use mathlib.Core.Path.{_≡_, refl, sym, ap, ap₂, _∙_}
 use mathlib.Core.Logic.{⊎-elim}
 use mathlib.Core.List.{List}

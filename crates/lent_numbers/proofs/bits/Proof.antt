@@ -1,4 +1,4 @@
--- `number_bytes::bits` meets its contract: a negative number is held in two's complement. Assumes nothing.
+-- `lent_numbers::bits` meets its contract: a negative number is held in two's complement. Assumes nothing.
 use mathlib.Core.Path.{refl}
 use Prim.Native.Nat.{_≤_}
 use native.Mathlib.Omega.{arith}

@@ -1,4 +1,4 @@
--- `number_bytes::put` meets its contract: the four low bytes of the bits are the number's. Assumes nothing.
+-- `lent_numbers::put` meets its contract: the four low bytes of the bits are the number's. Assumes nothing.
 use mathlib.Core.Path.{_∙_, ap}
 use denote.Ref.{now}
 use lib.Seq.{sets}

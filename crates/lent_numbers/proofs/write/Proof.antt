@@ -1,4 +1,4 @@
--- `number_bytes::write` meets its contract. The invariant: the first i numbers stand at the front as bytes, and behind them what stood there.
+-- `lent_numbers::write` meets its contract. The invariant: the first i numbers stand at the front as bytes, and behind them what stood there.
 -- Assumes nothing.
 use mathlib.Core.Path.{_≡_, refl, _∙_, ap}
 use mathlib.Core.List.{flatMap, _++_}

@@ -1,4 +1,4 @@
--- `set_bytes::owner_sets` meets its contract: the sets are 8 bytes each. Assumes nothing.
+-- `lent_sets::owner_sets` meets its contract: the sets are 8 bytes each. Assumes nothing.
 use mathlib.Core.Path.{refl, sym, _∙_, ap₂}
 use mathlib.Core.List.{flatMap, _++_}
 use native.Mathlib.Omega.{arith}

@@ -1,4 +1,4 @@
--- `set_bytes::write_sets` meets its contract. The invariant: the first i owner sets stand at the front as bytes, and behind them what stood there.
+-- `lent_sets::write_sets` meets its contract. The invariant: the first i owner sets stand at the front as bytes, and behind them what stood there.
 -- Assumes nothing.
 use mathlib.Core.Path.{_≡_, refl, _∙_, ap}
 use mathlib.Core.List.{flatMap, _++_}

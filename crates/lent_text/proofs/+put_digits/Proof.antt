@@ -1,4 +1,4 @@
--- `text::put_digits`, which calls itself, meets its contract. Its tenth has one digit less. What `most` allows falls. Assumes nothing.
+-- `lent_text::put_digits`, which calls itself, meets its contract. Its tenth has one digit less. What `most` allows falls. Assumes nothing.
 use native.Mathlib.Omega.{arith}
 use borrow.Author.Needs.{needs}
 use Rattle.lent_text.proofs.Texts.{put-behind, room-for-two, tenth-below, one-digit, last-digit}

@@ -1,4 +1,4 @@
--- `text::put` meets its contract. Assumes nothing.
+-- `lent_text::put` meets its contract. Assumes nothing.
 use mathlib.Core.Path.{refl}
 use borrow.Author.Needs.{needs}
 use Rattle.lent_text.proofs.Texts.{byte-put}

@@ -1,4 +1,4 @@
--- `text::put_line` meets its contract: each part stands behind those before it. Assumes nothing.
+-- `lent_text::put_line` meets its contract: each part stands behind those before it. Assumes nothing.
 use native.Mathlib.Omega.{arith}
 use borrow.Author.Needs.{needs}
 use Rattle.lent_text.proofs.Texts.{put-behind}

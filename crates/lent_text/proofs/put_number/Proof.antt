@@ -1,4 +1,4 @@
--- `text::put_number` meets its contract. Assumes nothing.
+-- `lent_text::put_number` meets its contract. Assumes nothing.
 use borrow.Author.Needs.{needs}
 use Rattle.lent_text.specs.Text.{decimal}
 use Rattle.lent_text.proofs.put_number.Statement.{statement}

@@ -1,4 +1,4 @@
--- `text::put_word` meets its contract. The invariant: the first i bytes of the word are copied in behind the first `at` of the text. Assumes nothing.
+-- `lent_text::put_word` meets its contract. The invariant: the first i bytes of the word are copied in behind the first `at` of the text. Assumes nothing.
 use mathlib.Core.Path.{_≡_, refl, sym, ap, _∙_}
 use Prim.Native.Nat.{_+_, _-_, _≤_}
 use native.Mathlib.Numerals.{add-one}

@@ -12,7 +12,7 @@ use Rattle.plane.specs.Points.{double, Triangle}
 use Rattle.plane.specs.Keys.{Key}
 use Rattle.table.specs.Table.{RuleA}
 use Rattle.table.specs.Sides.{trianglesOf}
-use Rattle.judged.specs.Held.{Stands}
+use Rattle.judged.specs.Held.{JudgedHeld}
 use Rattle.judged.proofs.Repaired.{judged-owners, judged-rules}
 use Rattle.judged.proofs.Standing.{few}
 use Rattle.listing.proofs.Front.{table-fits, table-held, table-front}
@@ -37,7 +37,7 @@ fits c = omega (arith, few (c .pre .3))
 count : (c : tie.After-corners) → length (keys c) ≡ 3 * many (start c)
 count c = c .corners .ensures .2 ∙ length-take-le _ _ (fits (start c))
 
-laid : (c : tie.After-corners) {s opposite l : List ℕ} (w : Stands s (many (start c)) (now (start c .args .numbers)) opposite l) → trianglesOf (keys c) ≡ w .n .table
+laid : (c : tie.After-corners) {s opposite l : List ℕ} (w : JudgedHeld s (many (start c)) (now (start c .args .numbers)) opposite l) → trianglesOf (keys c) ≡ w .n .table
 laid c w = c .corners .ensures .0 (w .n .table) [] (table-front w) (length-take-le _ _ (fits (start c)) ∙ ap (λ t. 3 * t) (sym (w .many)))
 
 -- They stand at the front of the work list.

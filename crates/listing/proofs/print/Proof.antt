@@ -3,7 +3,7 @@ use mathlib.Core.Path.{sym, subst}
 use native.Mathlib.Omega.{arith}
 use borrow.Author.Needs.{needs}
 use denote.Ref.{now}
-use Rattle.judged.specs.Held.{Stands}
+use Rattle.judged.specs.Held.{JudgedHeld}
 use Rattle.judged.proofs.Standing.{stands, refused-is}
 use Rattle.lent_text.specs.Putting.{Put}
 use Rattle.listing.specs.Listing.{listing}
@@ -18,7 +18,7 @@ abbrev call : tie.After-n → tie.After-judged
 call c = c .before .before .before .before .before
 
 -- What stands in the three lists once there are owner sets of so many triangles.
-standing : (c : tie.After-n) → let j = call c .judged in Stands (now (start (call c) .args .sheet)) (c .n .given .0 .0) (j .last .1 .0) (j .last .1 .1 .0) (j .last .1 .1 .1 .0)
+standing : (c : tie.After-n) → let j = call c .judged in JudgedHeld (now (start (call c) .args .sheet)) (c .n .given .0 .0) (j .last .1 .0) (j .last .1 .1 .0) (j .last .1 .1 .1 .0)
 standing c = let j = call c .judged in stands (now (start (call c) .args .sheet)) (j .result) (j .last .1 .0) (j .last .1 .1 .0) (j .last .1 .1 .1 .0) (j .ensures) (c .n .given .0 .0) (c .n .given .1)
 
 put-judged-requires : tie.Need-put-judged-requires

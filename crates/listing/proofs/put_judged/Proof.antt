@@ -9,7 +9,7 @@ use lib.ListN.{length, getD, take, length-append}
 use lib.Seq.{length-take-le, take-at}
 use Rattle.lent_text.specs.Putting.{Put}
 use Rattle.judged.specs.Judged.{judgedSheet}
-use Rattle.judged.specs.Held.{Stands}
+use Rattle.judged.specs.Held.{JudgedHeld}
 use Rattle.judged.proofs.Standing.{few, sets-many, pairs, polygons-at}
 use Rattle.listing_lines.specs.Printing.{Figures, linesBy}
 use Rattle.listing.specs.Held.{AreasOf}
@@ -30,7 +30,7 @@ laid c = c .before .before .before .before .before
 
 -- The bytes s come to what stands in the lists.
 abbrev Judged : tie.Start → List ℕ → Type 0
-Judged c s = let a = c .args in Stands s (a .n) (now (a .numbers)) (now (a .opposite)) (now (a .sets))
+Judged c s = let a = c .args in JudgedHeld s (a .n) (now (a .numbers)) (now (a .opposite)) (now (a .sets))
 
 -- The owner set of each triangle.
 abbrev owned : tie.Start → List ℕ
@@ -46,7 +46,7 @@ areas-many c = c .lay-areas .kept .1 .0 ∙ length-take-le _ _ (few (start c .pr
 areas-are : (c : tie.After-lay-areas) (s : List ℕ) (w : Judged (start c) s) → AreasOf (w .n) (areas c)
 areas-are c s w =
     let a = start c .args in
-    subst (λ t. (s opposite l : List ℕ) (w : Stands s t (now (a .numbers)) opposite l) → AreasOf (w .n) (areas c)) (length-take-le _ _ (few w)) (c .lay-areas .ensures)
+    subst (λ t. (s opposite l : List ℕ) (w : JudgedHeld s t (now (a .numbers)) opposite l) → AreasOf (w .n) (areas c)) (length-take-le _ _ (few w)) (c .lay-areas .ensures)
     s (now (a .opposite)) (now (a .sets)) w
 
 areas-room : (c : tie.After-lay-areas) (rest : List ℕ) → start c .args .n ≤ length (areas c ++ rest)
@@ -77,7 +77,7 @@ lay-areas-requires c κs =
     let s = entry (c .before) in
     let a = s .args in
     let w = s .pre .0 in
-    (w .0, now (a .opposite), now (a .sets), subst (λ t. Stands (w .0) t (now (a .numbers)) (now (a .opposite)) (now (a .sets))) (sym (length-take-le _ _ (few (w .1)))) (w .1))
+    (w .0, now (a .opposite), now (a .sets), subst (λ t. JudgedHeld (w .0) t (now (a .numbers)) (now (a .opposite)) (now (a .sets))) (sym (length-take-le _ _ (few (w .1)))) (w .1))
 
 repair-requires : tie.Need-repair-requires
 repair-requires c κs = let w = start (c .before .before .before .before) .pre .0 .1 in (pairs w, length-take-le _ _ (few w) ∙ sym (sets-many w), omega (arith, few w, sets-many w))

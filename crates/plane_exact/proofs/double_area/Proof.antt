@@ -1,4 +1,4 @@
--- `exact::double_area` meets its contract: each way is exact, and the sum of the two products is the double area. Assumes nothing.
+-- `plane_exact::double_area` meets its contract: each way is exact, and the sum of the two products is the double area. Assumes nothing.
 use mathlib.Core.Path.{_∙_, ap₂}
 use lib.IntN.{_+ℤ_, _*ℤ_}
 use borrow.Author.Needs.{needs}

@@ -1,4 +1,4 @@
--- `exact::on_way` meets its contract: the corners of the three numbers are handed to `strictly_between`. Assumes nothing.
+-- `plane_exact::on_way` meets its contract: the corners of the three numbers are handed to `strictly_between`. Assumes nothing.
 use mathlib.Core.Path.{sym, _∙_, subst}
 use borrow.Author.Needs.{needs}
 use Rattle.plane.specs.Keys.{InRange, pointAt}

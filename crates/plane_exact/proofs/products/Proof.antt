@@ -1,4 +1,4 @@
--- `exact::products` meets its contract: the products and their sum are far below 2^63, so that each is exact. Assumes nothing.
+-- `plane_exact::products` meets its contract: the products and their sum are far below 2^63, so that each is exact. Assumes nothing.
 use mathlib.Core.Path.{_≡_}
 use lib.Dec.{lit<}
 use lib.IntN.{ℤ, _+ℤ_, _*ℤ_}

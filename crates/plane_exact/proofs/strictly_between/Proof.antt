@@ -1,4 +1,4 @@
--- `exact::strictly_between` meets its contract: the two tests are those of the definition. Assumes nothing.
+-- `plane_exact::strictly_between` meets its contract: the two tests are those of the definition. Assumes nothing.
 use mathlib.Core.Path.{sym, _∙_, ap, ap₂}
 use lib.IntN.{pos, _+ℤ_, _*ℤ_}
 use lib.Signed.{ltZ}

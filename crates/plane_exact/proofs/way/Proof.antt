@@ -1,4 +1,4 @@
--- `exact::way` meets its contract: held numbers are small, so that their difference is exact, and what was added to both cancels.
+-- `plane_exact::way` meets its contract: held numbers are small, so that their difference is exact, and what was added to both cancels.
 -- Assumes nothing.
 use mathlib.Core.Path.{_≡_}
 use Prim.Native.Nat.{ℕ}

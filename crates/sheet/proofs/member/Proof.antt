@@ -14,7 +14,10 @@ same-length : tie.Need-same-length
 same-length c = search needs
 
 returns : tie.Need-returns
-returns c = (omega (arith, c .before .before .polygon .ensures .0, c .before .before .before .before .before .before .before .begin .ensures .0), λ t out h. rw (c .before .before .before .before .before .before .before .before .before .if1 .taken, c .before .before .before .before .if2 .taken) (c .before .before .polygon .ensures .1 _ out (c .before .before .before .before .before .before .before .begin .ensures .1 t out h)))
+returns c =
+    let p = c .before .before in
+    let b = p .before .before .before .before .before in
+    (omega (arith, p .polygon .ensures .0, b .begin .ensures .0), λ t out h. rw (b .before .before .if1 .taken, p .before .before .if2 .taken) (p .polygon .ensures .1 _ out (b .begin .ensures .1 t out h)))
 
 same-length-2 : tie.Need-same-length-2
 same-length-2 c = search needs

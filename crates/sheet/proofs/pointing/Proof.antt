@@ -58,10 +58,15 @@ same-length-3 c = search needs
 returns-5 : tie.Need-returns-5
 unfolding pointing
 returns-5 c =
-    let n = c .before .before .before .before .before .before .before .before .before .before .before .before .before .noted .ensures in (
-      omega (arith, c .before .before .push .ensures .0, n .0),
+    let p = c .before .before in
+    let fourth = p .before .before .before in
+    let third = fourth .before .before in
+    let second = third .before .before in
+    let first = second .before .before in
+    let n = first .before .before .noted .ensures in (
+      omega (arith, p .push .ensures .0, n .0),
       λ t out h.
-          rw (eq-eqb _ _ (c .before .before .before .before .before .before .before .before .before .before .before .if1 .left), eq-eqb _ _ (c .before .before .before .before .before .before .before .before .before .if2 .left), eq-eqb _ _ (c .before .before .before .before .before .before .before .if3 .left), eq-eqb _ _ (c .before .before .before .before .before .if4 .left)) (c .before .before .push .ensures .1 _ out (n .1 t out _ h)),
+          rw (eq-eqb _ _ (first .if1 .left), eq-eqb _ _ (second .if2 .left), eq-eqb _ _ (third .if3 .left), eq-eqb _ _ (fourth .if4 .left)) (p .push .ensures .1 _ out (n .1 t out _ h)),
     )
 
 pub pointing-spec : {M : Type 1} → statement M

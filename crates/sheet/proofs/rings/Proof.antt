@@ -47,9 +47,17 @@ loop-less c =
 
 loop-again : tie.Need-loop-again Inv-loop μ-loop
 loop-again c =
-    let l = c .before .before .before .before .before .before .before .before .before .before .loop in
-    let w = goes-on _ _ _ _ _ _ _ (c .before .before .before .before .before .before .before .step .ensures) (c .before .before .before .before .before .taken .ensures) _ _ (c .before .t .given .1) (l .inv .0) in
-    (w .0, omega (arith, w .1, l .inv .1), search needs, follow (l .inv .3) (w .2), nearer _ _ _ (to-come (c .before .before .before .before .before .before .before .before)) (l .inv .4) (goes-nearer _ _ _ _ _ (to-come (c .before .before .before .before .before .before .before .before)) (c .before .before .before .before .before .before .before .step .ensures) (c .before .before .before .before .before .taken .ensures .0) _ _ (c .before .t .given .1)))
+    let taken = c .before .before .before .before .before .taken .ensures in
+    let stepped = c .before .before .before .before .before .before .before in
+    let l = stepped .before .before .before .loop in
+    let some = to-come (stepped .before) in
+    let w = goes-on _ _ _ _ _ _ _ (stepped .step .ensures) taken _ _ (c .before .t .given .1) (l .inv .0) in (
+      w .0,
+      omega (arith, w .1, l .inv .1),
+      search needs,
+      follow (l .inv .3) (w .2),
+      nearer _ _ _ some (l .inv .4) (goes-nearer _ _ _ _ _ some (stepped .step .ensures) (taken .0) _ _ (c .before .t .given .1)),
+    )
 
 enum-known-t-2 : tie.Need-enum-known-t-2 Inv-loop μ-loop
 enum-known-t-2 c = search needs
@@ -59,7 +67,11 @@ same-length c = search needs
 
 returns : tie.Need-returns Inv-loop μ-loop
 returns c =
-    ((stops-inside _ _ _ _ _ (to-come (c .before .before .before .before .before .before .before .before)) (c .before .before .before .before .before .before .before .step .ensures) (c .before .before .before .before .before .taken .ensures .0) _ _ (c .before .t2 .given .1), follow-over (c .before .before .before .before .before .before .before .before .before .before .loop .inv .3) (is-over _ _ _ _ _ _ _ (c .before .before .before .before .before .before .before .step .ensures) (c .before .before .before .before .before .taken .ensures) _ _ (c .before .t2 .given .1)) .ends), tt)
+    let taken = c .before .before .before .before .before .taken .ensures in
+    let stepped = c .before .before .before .before .before .before .before in
+    let l = stepped .before .before .before .loop in
+    let inside = stops-inside _ _ _ _ _ (to-come (stepped .before)) (stepped .step .ensures) (taken .0) _ _ (c .before .t2 .given .1) in
+    ((inside, follow-over (l .inv .3) (is-over _ _ _ _ _ _ _ (stepped .step .ensures) taken _ _ (c .before .t2 .given .1)) .ends), tt)
 
 same-length-2 : tie.Need-same-length-2 Inv-loop μ-loop
 same-length-2 c = c .before .before .before .before .loop .inv .2

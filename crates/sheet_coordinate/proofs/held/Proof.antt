@@ -1,4 +1,4 @@
--- `coordinate::held` meets its contract: a number in range plus 10,000,000 is from 0 to 20,000,000, so that neither the sum nor the cast
+-- `sheet_coordinate::held` meets its contract: a number in range plus 10,000,000 is from 0 to 20,000,000, so that neither the sum nor the cast
 -- loses anything. Assumes nothing.
 use mathlib.Core.Path.{_≡_, refl}
 use native.Mathlib.Omega.{arith}

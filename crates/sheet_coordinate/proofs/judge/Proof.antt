@@ -1,4 +1,4 @@
--- `coordinate::judge` meets its contract: the two tests are the range, y is the double of the number that x is cut to, and the cast of y
+-- `sheet_coordinate::judge` meets its contract: the two tests are the range, y is the double of the number that x is cut to, and the cast of y
 -- gives that number back. Assumes nothing.
 use borrow.Author.Needs.{needs}
 use mathlib.Core.Path.{_≡_, sym, ap, _∙_}

@@ -1,4 +1,4 @@
--- `edges::corners` meets its contract. The invariant: the first i of the list are the numbers of the corners that stand behind the count. Assumes nothing.
+-- `sheet_edges::corners` meets its contract. The invariant: the first i of the list are the numbers of the corners that stand behind the count. Assumes nothing.
 use mathlib.Core.Path.{_≡_, refl, _∙_, subst}
 use Prim.Native.Nat.{_+_, _-_, _*_, _≤_}
 use native.Mathlib.Omega.{arith}

@@ -1,4 +1,4 @@
--- `edges::part` meets its contract. The invariant: the edges of the rings before the one that stands here are laid down, and the rings from it on are left.
+-- `sheet_edges::part` meets its contract. The invariant: the edges of the rings before the one that stands here are laid down, and the rings from it on are left.
 -- Assumes nothing.
 use mathlib.Core.List.{flatMap}
 use native.Mathlib.Omega.{arith}

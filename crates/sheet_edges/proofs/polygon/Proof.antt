@@ -1,4 +1,4 @@
--- `edges::polygon` meets its contract. The invariant: the edges of the parts before the one that stands here are laid down, and the parts from it on are left.
+-- `sheet_edges::polygon` meets its contract. The invariant: the edges of the parts before the one that stands here are laid down, and the parts from it on are left.
 -- Assumes nothing.
 use mathlib.Core.List.{flatMap}
 use native.Mathlib.Omega.{arith}

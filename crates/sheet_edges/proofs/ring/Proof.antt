@@ -1,4 +1,4 @@
--- `edges::ring` meets its contract. The invariant: the edges up to the point that stands here are laid down, and the points from it on are left.
+-- `sheet_edges::ring` meets its contract. The invariant: the edges up to the point that stands here are laid down, and the points from it on are left.
 -- Assumes nothing.
 use Prim.Native.Nat.{_≤_}
 use native.Mathlib.Omega.{arith}

@@ -1,4 +1,4 @@
--- `writer::thing` and `writer::things`, which call each other, meet their contracts: a thing is its count and the things that it counts, and things
+-- `sheet_writer::thing` and `sheet_writer::things`, which call each other, meet their contracts: a thing is its count and the things that it counts, and things
 -- that are walked over one behind the other are emitted in one. The level falls. Assumes nothing.
 use mathlib.Core.Path.{_≡_, refl, sym, _∙_}
 use mathlib.Core.Bool.{true}

@@ -1,4 +1,4 @@
--- `writer::bits` meets its contract: the number is its four bytes, each by its weight. Assumes nothing.
+-- `sheet_writer::bits` meets its contract: the number is its four bytes, each by its weight. Assumes nothing.
 use Prim.Native.Nat.{_*_}
 use native.Mathlib.Omega.{arith}
 use borrow.Author.Needs.{needs}

@@ -1,4 +1,4 @@
--- `writer::body` meets its contract: the headers, the table and the polygons one behind the other. Assumes nothing.
+-- `sheet_writer::body` meets its contract: the headers, the table and the polygons one behind the other. Assumes nothing.
 use borrow.Author.Needs.{needs}
 use borrow.Author.Tests.{not-true, not-false}
 use denote.Ref.{now}

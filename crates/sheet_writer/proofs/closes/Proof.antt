@@ -1,4 +1,4 @@
--- `writer::closes` meets its contract: only a ring's points are looked at. Assumes nothing.
+-- `sheet_writer::closes` meets its contract: only a ring's points are looked at. Assumes nothing.
 use mathlib.Core.Path.{_∙_, sym}
 use Rattle.sheet_writer.proofs.Levels.{ring-count, closes-ring, closes-other}
 use Rattle.sheet_writer.proofs.closes.Statement.{statement}

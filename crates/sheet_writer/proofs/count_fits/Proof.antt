@@ -1,4 +1,4 @@
--- `writer::count_fits` meets its contract: each way is the limits of its level. Assumes nothing.
+-- `sheet_writer::count_fits` meets its contract: each way is the limits of its level. Assumes nothing.
 use mathlib.Core.Path.{refl}
 use borrow.Author.Tests.{eq-eqb, ne-eqb, le-leb, lt-leb}
 use lib.Dec.{leb·zero}

@@ -1,4 +1,4 @@
--- `writer::head` meets its contract: of the three runs of bytes that may stand before a level's things at most one is written, so that the three one
+-- `sheet_writer::head` meets its contract: of the three runs of bytes that may stand before a level's things at most one is written, so that the three one
 -- behind the other are the heading. Assumes nothing.
 use mathlib.Core.Path.{_≡_, refl, sym, ap, ap₂, _∙_, subst}
 use mathlib.Core.Logic.{⊎-elim}

@@ -1,4 +1,4 @@
--- `writer::header` meets its contract: the byte order, the type number and the count stand one behind the other. Assumes nothing.
+-- `sheet_writer::header` meets its contract: the byte order, the type number and the count stand one behind the other. Assumes nothing.
 use mathlib.Core.Path.{_≡_, refl}
 use mathlib.Core.Bool.{true}
 use mathlib.Core.List.{List}

@@ -1,4 +1,4 @@
--- `writer::in_range` meets its contract: a number from 0 up is its bits, and one below 0 is its bits less 2 ^ 32. Assumes nothing.
+-- `sheet_writer::in_range` meets its contract: a number from 0 up is its bits, and one below 0 is its bits less 2 ^ 32. Assumes nothing.
 use mathlib.Core.Path.{sym}
 use native.Mathlib.Omega.{arith}
 use Rattle.sheet_writer.proofs.Numbers.{in-range-low, in-range-high}

@@ -1,4 +1,4 @@
--- `writer::pattern` meets its contract: a number of 32 bits is a double exactly, and a double that has a value is no NaN. Assumes nothing.
+-- `sheet_writer::pattern` meets its contract: a number of 32 bits is a double exactly, and a double that has a value is no NaN. Assumes nothing.
 use mathlib.Core.Path.{_≡_, ap}
 use mathlib.Core.Bool.{Bool, true, false, not}
 use Prim.Native.Nat.{ℕ, suc}

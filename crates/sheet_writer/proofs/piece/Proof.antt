@@ -1,4 +1,4 @@
--- `writer::piece` meets its contract: a Triangle's header and count, three points from there, and the first point's patterns once more. Assumes nothing.
+-- `sheet_writer::piece` meets its contract: a Triangle's header and count, three points from there, and the first point's patterns once more. Assumes nothing.
 use mathlib.Core.Path.{refl}
 use Prim.Native.Nat.{_+_, _/_, _≤_}
 use native.Mathlib.Omega.{arith}

@@ -1,4 +1,4 @@
--- `writer::pieces` meets its contract: what is walked over one behind the other is emitted in one. The loop's invariant: the pieces behind, with
+-- `sheet_writer::pieces` meets its contract: what is walked over one behind the other is emitted in one. The loop's invariant: the pieces behind, with
 -- those to come, are all of them. Assumes nothing.
 use Prim.Native.Nat.{_-_}
 use native.Mathlib.Omega.{arith}

@@ -1,4 +1,4 @@
--- `writer::point` meets its contract: the two numbers are those at the front of what is left, and their patterns stand one behind the other.
+-- `sheet_writer::point` meets its contract: the two numbers are those at the front of what is left, and their patterns stand one behind the other.
 -- Assumes nothing.
 use mathlib.Core.Path.{refl, sym, _∙_}
 use native.Mathlib.Omega.{arith}

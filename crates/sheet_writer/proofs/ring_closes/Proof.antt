@@ -1,4 +1,4 @@
--- `writer::ring_closes` meets its contract: the numbers at two places are the same where their bits are. Assumes nothing.
+-- `sheet_writer::ring_closes` meets its contract: the numbers at two places are the same where their bits are. Assumes nothing.
 use mathlib.Core.Path.{_≡_, refl, _∙_}
 use mathlib.Core.Bool.{true}
 use mathlib.Core.List.{List}

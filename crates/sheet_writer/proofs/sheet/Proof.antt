@@ -1,4 +1,4 @@
--- `writer::sheet` meets its contract: with a wrong count nothing is emitted, and what the body emits is the sheet if it ends with the numbers and has
+-- `sheet_writer::sheet` meets its contract: with a wrong count nothing is emitted, and what the body emits is the sheet if it ends with the numbers and has
 -- no more than 4,096 polygon points. Assumes nothing.
 use mathlib.Core.Path.{_≡_, refl, sym, _∙_}
 use mathlib.Core.Bool.{true}

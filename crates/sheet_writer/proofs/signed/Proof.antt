@@ -1,4 +1,4 @@
--- `writer::signed` meets its contract: the bits from 2^31 on stand for themselves less 2^32. Assumes nothing.
+-- `sheet_writer::signed` meets its contract: the bits from 2^31 on stand for themselves less 2^32. Assumes nothing.
 use mathlib.Core.Path.{_≡_, refl}
 use Prim.Native.Nat.{ℕ, _^_, _≤_, _<_}
 use native.Mathlib.Omega.{arith}

@@ -1,4 +1,4 @@
--- `writer::write` meets its contract: the walk over no room tells whether a sheet is given and how long it is, and the walk over the lent bytes
+-- `sheet_writer::write` meets its contract: the walk over no room tells whether a sheet is given and how long it is, and the walk over the lent bytes
 -- writes it. Assumes nothing.
 use Prim.Native.Nat.{_≤_}
 use native.Mathlib.Omega.{arith}

@@ -5,7 +5,7 @@ use borrow.Author.Needs.{needs}
 use denote.Ref.{now}
 use Rattle.lent.specs.Answered.{Answered}
 use Rattle.lent_sets.specs.Sets.{setsOutcome}
-use Rattle.judged.specs.Held.{Stands}
+use Rattle.judged.specs.Held.{JudgedHeld}
 use Rattle.judged.proofs.Standing.{stands, few, sets-many}
 use Rattle.outcomes.proofs.Judged.{owner-sets-on}
 use Rattle.sheets.proofs.Judged.{refused, sets-fit}
@@ -20,7 +20,7 @@ abbrev call : tie.After-n → tie.After-judged
 call c = c .before .before .before .before .before
 
 -- What stands in the three lists once there are owner sets of so many triangles.
-standing : (c : tie.After-n) → let j = call c .judged in Stands (now (start (call c) .args .sheet)) (c .n .given .0 .0) (j .last .1 .0) (j .last .1 .1 .0) (j .last .1 .1 .1 .0)
+standing : (c : tie.After-n) → let j = call c .judged in JudgedHeld (now (start (call c) .args .sheet)) (c .n .given .0 .0) (j .last .1 .0) (j .last .1 .1 .0) (j .last .1 .1 .1 .0)
 standing c = let j = call c .judged in stands (now (start (call c) .args .sheet)) (j .result) (j .last .1 .0) (j .last .1 .1 .0) (j .last .1 .1 .1 .0) (j .ensures) (c .n .given .0 .0) (c .n .given .1)
 
 returns : tie.Need-returns

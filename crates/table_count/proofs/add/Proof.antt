@@ -1,4 +1,4 @@
--- `counting::add` meets its contract: the number counted from 1 is one more than the place of the count. Assumes nothing.
+-- `table_count::add` meets its contract: the number counted from 1 is one more than the place of the count. Assumes nothing.
 use mathlib.Core.Path.{_≡_, ap}
 use mathlib.Core.Bool.{Bool, cond}
 use mathlib.Core.List.{List}

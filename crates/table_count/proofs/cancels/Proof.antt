@@ -1,4 +1,4 @@
--- `counting::cancels` meets its contract. The invariant: up and down are how often the pair and its reverse are pieces of the first j edges; of the first i they
+-- `table_count::cancels` meets its contract. The invariant: up and down are how often the pair and its reverse are pieces of the first j edges; of the first i they
 -- are none, where `looked_at` found none. Assumes nothing.
 use mathlib.Core.Path.{_≡_, sym, _∙_, ap, subst}
 use mathlib.Core.Logic.{inr, ⊎-elim}

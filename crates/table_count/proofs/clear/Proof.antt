@@ -1,4 +1,4 @@
--- `counting::clear` meets its contract. The invariant: the first k counts are 0. Assumes nothing.
+-- `table_count::clear` meets its contract. The invariant: the first k counts are 0. Assumes nothing.
 use mathlib.Core.Path.{_≡_, refl, _∙_}
 use Prim.Native.Nat.{ℕ, _-_, _≤_, _<_}
 use native.Mathlib.Omega.{arith}

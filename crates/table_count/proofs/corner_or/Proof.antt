@@ -1,4 +1,4 @@
--- `counting::corner_or` meets its contract. Assumes nothing.
+-- `table_count::corner_or` meets its contract. Assumes nothing.
 use mathlib.Core.Path.{sym, ap}
 use mathlib.Core.Bool.{cond}
 use denote.Ref.{now}

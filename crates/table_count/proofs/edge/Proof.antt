@@ -1,4 +1,4 @@
--- `counting::edge` meets its contract. The invariant: the walk has come to u, the pieces before it are counted and seen (Walking).
+-- `table_count::edge` meets its contract. The invariant: the walk has come to u, the pieces before it are counted and seen (Walking).
 -- Assumes nothing.
 use mathlib.Core.Path.{_≡_, refl, sym, _∙_, ap, subst}
 use mathlib.Core.Bool.{cond}

@@ -1,4 +1,4 @@
--- `counting::higher` meets its contract. Assumes nothing.
+-- `table_count::higher` meets its contract. Assumes nothing.
 use mathlib.Core.Path.{sym, ap}
 use mathlib.Core.Bool.{cond}
 use borrow.Author.Tests.{lt-ltb, le-ltb}

@@ -1,4 +1,4 @@
--- `counting::looked_at` meets its contract. The invariant: the pair is no piece of the edges from k up to edge i. Assumes nothing.
+-- `table_count::looked_at` meets its contract. The invariant: the pair is no piece of the edges from k up to edge i. Assumes nothing.
 use mathlib.Core.Path.{_≡_, refl, sym, _∙_, subst}
 use mathlib.Core.Bool.{Bool, true, false}
 use Prim.Native.Nat.{ℕ, _-_, _≤_, _<_}

@@ -1,4 +1,4 @@
--- `counting::lower` meets its contract. Assumes nothing.
+-- `table_count::lower` meets its contract. Assumes nothing.
 use mathlib.Core.Path.{sym, ap}
 use mathlib.Core.Bool.{cond}
 use borrow.Author.Tests.{lt-ltb, le-ltb}

@@ -1,4 +1,4 @@
--- `counting::next_stop` meets its contract. The invariant: no corner from `at` up to here is strictly between; from a corner that is not below v on none is,
+-- `table_count::next_stop` meets its contract. The invariant: no corner from `at` up to here is strictly between; from a corner that is not below v on none is,
 -- as what is strictly between is below v. Assumes nothing.
 use mathlib.Core.Path.{_≡_, refl, sym, _∙_, ap, subst}
 use mathlib.Core.Bool.{Bool, true, false}

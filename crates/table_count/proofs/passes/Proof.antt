@@ -1,4 +1,4 @@
--- `counting::passes` meets its contract: the tests in their order. Assumes nothing.
+-- `table_count::passes` meets its contract: the tests in their order. Assumes nothing.
 use borrow.Author.Tests.{lt-ltb, le-ltb}
 use borrow.Author.Needs.{needs}
 use Rattle.table_count.proofs.passes.Statement.{statement}

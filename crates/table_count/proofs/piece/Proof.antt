@@ -1,4 +1,4 @@
--- `counting::piece` meets its contract: a pair that is found is counted at its side and at the reverse, another is told by the last
+-- `table_count::piece` meets its contract: a pair that is found is counted at its side and at the reverse, another is told by the last
 -- comparison. Assumes nothing.
 use mathlib.Core.Path.{_≡_, sym, _∙_, ap, ap₂, subst}
 use mathlib.Core.Bool.{not}

@@ -1,4 +1,4 @@
--- `counting::rank` meets its contract: a corner stands at its place, and nowhere else. Assumes nothing.
+-- `table_count::rank` meets its contract: a corner stands at its place, and nowhere else. Assumes nothing.
 use mathlib.Core.Path.{sym, _∙_, ap}
 use native.Mathlib.Omega.{arith}
 use native.Mathlib.Numerals.{add-one}

@@ -1,4 +1,4 @@
--- `counting::side` meets its contract: a corner's rank is one more than its place, so the code is the pair's. Assumes nothing.
+-- `table_count::side` meets its contract: a corner's rank is one more than its place, so the code is the pair's. Assumes nothing.
 use mathlib.Core.Path.{_≡_, sym, _∙_, ap}
 use native.Mathlib.Omega.{arith}
 use denote.Ref.{now}

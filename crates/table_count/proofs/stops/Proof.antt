@@ -1,4 +1,4 @@
--- `counting::stops` meets its contract: the tests in their order. Assumes nothing.
+-- `table_count::stops` meets its contract: the tests in their order. Assumes nothing.
 use mathlib.Core.Path.{_∙_}
 use borrow.Author.Tests.{eq-eqb, ne-eqb}
 use borrow.Author.Needs.{needs}

@@ -1,4 +1,4 @@
--- `counting::tally` meets its contract. The invariant: the first i edges are counted, and their pieces settled. Assumes nothing.
+-- `table_count::tally` meets its contract. The invariant: the first i edges are counted, and their pieces settled. Assumes nothing.
 use mathlib.Core.Path.{_≡_, refl, sym, _∙_, subst}
 use mathlib.Core.List.{List}
 use Prim.Native.Nat.{_-_, _≤_}

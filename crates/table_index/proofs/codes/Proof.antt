@@ -1,4 +1,4 @@
--- `indexing::codes` meets its contract. The invariant: the codes of the first i sides, and those that are left to lay down, are together the whole,
+-- `table_index::codes` meets its contract. The invariant: the codes of the first i sides, and those that are left to lay down, are together the whole,
 -- and what is left is whole triangles. Assumes nothing.
 use mathlib.Core.Path.{_≡_, refl, sym, _∙_, ap, ap₂}
 use mathlib.Core.List.{List, _∷_, _++_}

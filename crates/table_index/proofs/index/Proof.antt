@@ -1,4 +1,4 @@
--- `indexing::index` meets its contract. The invariant: the first i codes are laid down with their numbers in ascending order, and behind them
+-- `table_index::index` meets its contract. The invariant: the first i codes are laid down with their numbers in ascending order, and behind them
 -- stands what stood there. All of them are different, so that there are as many as codes. Assumes nothing.
 use mathlib.Core.Path.{_≡_, refl, sym, _∙_, ap, subst}
 use mathlib.Core.List.{_++_}

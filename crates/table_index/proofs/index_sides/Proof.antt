@@ -1,4 +1,4 @@
--- `indexing::index_sides` meets its contract: the codes are laid down in a work list of the library's own. Assumes nothing.
+-- `table_index::index_sides` meets its contract: the codes are laid down in a work list of the library's own. Assumes nothing.
 use mathlib.Core.Path.{sym}
 use native.Mathlib.Omega.{arith}
 use lib.Seq.{length-take-le}

@@ -1,4 +1,4 @@
--- `indexing::lay_sides` meets its contract. Assumes nothing.
+-- `table_index::lay_sides` meets its contract. Assumes nothing.
 use mathlib.Core.Path.{_≡_, sym, _∙_, ap, subst}
 use Prim.Native.Nat.{_^_, _<_}
 use native.Mathlib.Omega.{arith}

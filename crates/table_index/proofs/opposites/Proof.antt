@@ -1,4 +1,4 @@
--- `indexing::opposites` meets its contract. The invariant: what is laid down for the first i codes, and what is left to lay down, are together the
+-- `table_index::opposites` meets its contract. The invariant: what is laid down for the first i codes, and what is left to lay down, are together the
 -- whole. Assumes nothing.
 use mathlib.Core.Path.{_≡_, refl, sym, _∙_, ap, subst}
 use mathlib.Core.List.{_∷_, _++_, map}

@@ -1,4 +1,4 @@
--- `indexing::repeated_side` meets its contract: no side below k repeats, and none below j is side k; the break leaves with j and k that are the same side. Assumes nothing.
+-- `table_index::repeated_side` meets its contract: no side below k repeats, and none below j is side k; the break leaves with j and k that are the same side. Assumes nothing.
 use mathlib.Core.Path.{_≡_, refl, sym, subst}
 use mathlib.Core.Logic.{⊎-elim}
 use Prim.Native.Nat.{ℕ, _-_, _/_, _%_, _≤_, _<_}

@@ -1,4 +1,4 @@
--- `labels::agree` meets its contract. The invariant: the counts at the first k sides are the shares of the labelled set. Assumes nothing.
+-- `table_labels::agree` meets its contract. The invariant: the counts at the first k sides are the shares of the labelled set. Assumes nothing.
 use mathlib.Core.Path.{_≡_}
 use Prim.Native.Nat.{ℕ, _+_, _-_, _/_, _≤_, _<_}
 use native.Mathlib.Omega.{arith}

@@ -1,4 +1,4 @@
--- `labels::beyond` meets its contract. Assumes nothing.
+-- `table_labels::beyond` meets its contract. Assumes nothing.
 use mathlib.Core.Path.{_≡_, sym, _∙_, ap}
 use Prim.Native.Nat.{ℕ, suc, _-_}
 use native.Mathlib.Omega.{arith}

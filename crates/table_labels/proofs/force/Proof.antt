@@ -1,4 +1,4 @@
--- `labels::force` meets its contract. The invariant: forcing the rest of the order from the labels ends as forcing the whole order does.
+-- `table_labels::force` meets its contract. The invariant: forcing the rest of the order from the labels ends as forcing the whole order does.
 -- Assumes nothing.
 use mathlib.Core.Path.{_≡_, refl, sym, _∙_, ap}
 use mathlib.Core.Bool.{Bool}

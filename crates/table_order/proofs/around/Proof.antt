@@ -1,4 +1,4 @@
--- `forced::around` meets its contract: three sides in turn, and each keeps what the one before it marked. Assumes nothing.
+-- `table_order::around` meets its contract: three sides in turn, and each keeps what the one before it marked. Assumes nothing.
 use mathlib.Core.Path.{refl}
 use native.Mathlib.Omega.{arith}
 use Rattle.table_order.proofs.Meeting.{may-cross, grown-more, across-still, rounded}

@@ -1,4 +1,4 @@
--- `forced::cross` meets its contract. The reverse of side k has k for its own reverse, and the triangle of k is marked. Assumes nothing.
+-- `table_order::cross` meets its contract. The reverse of side k has k for its own reverse, and the triangle of k is marked. Assumes nothing.
 use Prim.Native.Nat.{_-_}
 use native.Mathlib.Omega.{arith}
 use lib.ListN.{getD}

@@ -1,4 +1,4 @@
--- `forced::enter` meets its contract: a side without a reverse has no triangle across it. Assumes nothing.
+-- `table_order::enter` meets its contract: a side without a reverse has no triangle across it. Assumes nothing.
 use native.Mathlib.Omega.{arith}
 use Rattle.table_order.proofs.Meeting.{grown-self, may-take, taken-in}
 use borrow.Author.Needs.{needs}

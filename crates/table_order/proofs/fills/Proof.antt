@@ -1,4 +1,4 @@
--- `forced::fills` meets its contract: what is met from the starts on and across every side is every triangle. Assumes nothing.
+-- `table_order::fills` meets its contract: what is met from the starts on and across every side is every triangle. Assumes nothing.
 use mathlib.Core.Path.{sym, _∙_}
 use native.Mathlib.Omega.{arith}
 use lib.ListN.{length}

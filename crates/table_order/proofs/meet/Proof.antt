@@ -1,4 +1,4 @@
--- `forced::meet` meets its contract: the two stores are the two lists of `takes`. Assumes nothing.
+-- `table_order::meet` meets its contract: the two stores are the two lists of `takes`. Assumes nothing.
 use mathlib.Core.Path.{refl}
 use native.Mathlib.Omega.{arith}
 use Rattle.table_order.specs.Meeting.{stays, takes}

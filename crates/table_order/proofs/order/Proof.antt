@@ -1,4 +1,4 @@
--- `forced::order` meets its contract: the first marks of an array of unset ones are unset. Assumes nothing.
+-- `table_order::order` meets its contract: the first marks of an array of unset ones are unset. Assumes nothing.
 use native.Mathlib.Omega.{arith}
 use mathlib.Core.Path.{refl, sym}
 use lib.ListN.{length}

@@ -1,4 +1,4 @@
--- `forced::spreads` meets its contract. The invariant: the triangles across the sides of the first i triangles are marked. Assumes nothing.
+-- `table_order::spreads` meets its contract. The invariant: the triangles across the sides of the first i triangles are marked. Assumes nothing.
 use Prim.Native.Nat.{_-_, _≤_}
 use native.Mathlib.Omega.{arith}
 use lib.ListN.{length}

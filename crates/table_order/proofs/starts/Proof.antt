@@ -1,4 +1,4 @@
--- `forced::starts` meets its contract. The invariant: of the first k sides those without a reverse have their triangles marked. Assumes nothing.
+-- `table_order::starts` meets its contract. The invariant: of the first k sides those without a reverse have their triangles marked. Assumes nothing.
 use Prim.Native.Nat.{_-_, _≤_}
 use native.Mathlib.Omega.{arith}
 use lib.ListN.{length}

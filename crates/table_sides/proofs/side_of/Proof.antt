@@ -1,4 +1,4 @@
--- `across::side_of` meets its contract, by what stands at the place of the code times 4096 (Numbered). Assumes nothing.
+-- `table_sides::side_of` meets its contract, by what stands at the place of the code times 4096 (Numbered). Assumes nothing.
 use denote.Ref.{now}
 use Rattle.table_sides.proofs.Numbered.{side-found, side-other, side-past}
 use borrow.Author.Needs.{needs}

@@ -1,4 +1,4 @@
--- `types::fault` is `faultAt`: at each return the slot and the tests of the type say which case of it holds. Assumes nothing.
+-- `wkb_kinds::fault` is `faultAt`: at each return the slot and the tests of the type say which case of it holds. Assumes nothing.
 use borrow.Author.Needs.{needs}
 use borrow.Author.Tests.{lt-ltb, le-ltb, eq-eqb, ne-eqb}
 use mathlib.Core.Path.{_≡_, _∙_}
