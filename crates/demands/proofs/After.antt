@@ -1,88 +1,66 @@
--- What an entry goes on to for a sheet with its owner sets: repair, and the polygon that the boundary entry is asked for. The idea: repair has an
--- answer exactly if some triangle has an owner, and the one owner of each triangle is told by what it has to be (no-other). Assumes nothing.
-use mathlib.Core.Path.{_≡_, refl, sym, _∙_, ap, subst}
-use mathlib.Core.Logic.{_↔_, _⊎_, inl, inr}
-use mathlib.Core.Bool.{Bool, true, false, cond, _&&_}
+-- What an entry goes on to for a sheet with its owners: repair, and the polygon that the boundary entry is asked for. The idea: repair has an answer exactly
+-- if some triangle has an owner, and the one owner of each triangle is told by what it has to be. Assumes nothing.
+use mathlib.Core.Path.{_≡_, sym, _∙_, ap, ap₂}
+use mathlib.Core.Logic.{_↔_, Iff·trans, _⊎_, inl, inr}
+use mathlib.Core.Bool.{_&&_}
 use mathlib.Core.List.{List, []}
-use mathlib.Core.Option.{Option, none, some}
 use Prim.Native.Nat.{ℕ, _<_}
 use native.Mathlib.Omega.{arith}
-use lib.Dec.{T, eqb, leb, leb→le, le→leb}
+use lib.Dec.{T, leb, leb→le, le→leb}
 use lib.ListN.{length, getD}
-use Rattle.whole.specs.Sums.{All, Among}
+use Rattle.whole.specs.Sums.{All}
 use Rattle.whole.proofs.Sums.{and-left, and-right, and-both, all-at, all-from}
-use Rattle.lent.specs.Answered.{Outcome, refusal, bytes}
-use Rattle.repair.proofs.OneOwner.{unowned}
-use Rattle.repair.specs.OneOwner.{ownersAt}
-use Rattle.repair.proofs.Kept.{from-owners}
+use Rattle.lent.specs.Stages.{value, refused, andThen, needing}
+use Rattle.lent.specs.Answered.{Written, Outcome, bytes}
+use Rattle.lent.proofs.Stages.{value-refused, chain-value, chain-refused, needing-value, needing-refused}
 use Rattle.sheet_form.specs.Numbers.{Sheet}
-use Rattle.judged.specs.Judged.{judged, judgedSheet}
-use Rattle.repair_answers.specs.Answers.{afterRepair}
-use Rattle.outcomes.specs.Entries.{repairOf, ownedSides, sidesAfter, boundaryOutcome}
-use Rattle.demands.specs.Answers.{HasSets, NoOwner, Repaired, OnSheet}
-use Rattle.demands.proofs.Repair.{unrepaired, one-owner, no-other}
-use Rattle.demands.proofs.Stages.{read-limits}
-use Rattle.demands.proofs.Sets.{has-sets}
+use Rattle.judged.specs.Judged.{judgedSheet, repairOf}
+use Rattle.outcomes.specs.Entries.{onSheet}
+use Rattle.demands.specs.Answers.{HasOwners, NoOwner, Repaired, OnSheet}
+use Rattle.demands.proofs.Repair
+use Rattle.demands.proofs.Sets.{with-owners, has-owners}
 
--- ---- two answers that are one, two refusals that are one
+-- ---- two answers that are one
 pub same-answer : (k item : ℕ) (m l : List ℕ) → (bytes k m ≡ bytes item l) ↔ ((l ≡ m) × (item ≡ k))
-same-answer k item m l = (λ e. (cc e, cc e), λ (f, i) j. bytes (sym i j) (sym f j))
+same-answer k item m l = (
+  λ e. let w : _≡_ {A = Written} (record { item = item; text = l }) (record { item = k; text = m }) = cc e in (ap (λ w. w .text) w, ap (λ w. w .item) w),
+  λ (f, i) j. bytes (sym i j) (sym f j),
+)
 
-pub same-refusal : (number k code item : ℕ) → (refusal number k ≡ refusal code item) ↔ ((code ≡ number) × (item ≡ k))
-same-refusal number k code item = (λ e. (cc e, cc e), λ (c, i) j. refusal (sym c j) (sym i j))
+-- ---- repair of a sheet with its owners
+module _ (s : List ℕ) (all : All (λ b. b < 256) s) (n : Sheet) (owners : List (List ℕ)) (h : HasOwners s n owners) where
+  comes : judgedSheet s ≡ value (with-owners n owners)
+  comes = has-owners s n owners .1 h
 
-pub bytes-no-refusal : (k : ℕ) (m : List ℕ) (code item : ℕ) → bytes k m ≡ refusal code item → ⊥
-bytes-no-refusal k m code item e = let z : _≡_ {A = ℕ} 0 1 = cc e in omega arith
+  pub repaired-is : (l : List ℕ) → (repairOf (with-owners n owners) ≡ value l) ↔ Repaired n owners l
+  repaired-is = Repair.one-owner s all (with-owners n owners) comes
 
-pub refusal-no-bytes : (number k item : ℕ) (l : List ℕ) → refusal number k ≡ bytes item l → ⊥
-refusal-no-bytes number k item l e = let z : _≡_ {A = ℕ} 0 1 = cc e in omega arith
-
--- ---- repair of a sheet with its owner sets
-module _ (s : List ℕ) (all : All (λ b. b < 256) s) (n : Sheet) (sets : List ℕ) (h : HasSets s n sets) where
-  comes : judgedSheet s ≡ judged n sets
-  comes = has-sets s n sets .1 h
-
-  no-owner : (repairOf n sets ≡ none) ↔ NoOwner sets
-  no-owner =
-      let u = unrepaired s all n sets comes in
-      (λ e. all-from (λ x. x ≡ 0) 0 sets (λ t l. u .0 e t (omega (arith, h .each))), λ z. u .1 (λ t l. all-at (λ x. x ≡ 0) 0 sets t z (omega (arith, h .each))))
-
-  -- An owner after repair was an owner of some triangle before.
-  owner-there : (l : List ℕ) → Repaired n sets l → NoOwner sets → ⊥
-  owner-there l p z =
-      let (u, w, a) = from-owners _ sets l p 0 (omega (arith, h .each, read-limits s all n (h .read) .some)) in
-      let e : ownersAt sets u ≡ [] = unowned (getD sets u 0) (omega (arith, all-at (λ x. x ≡ 0) 0 sets u z w)) .1 (all-at (λ x. x ≡ 0) 0 sets u z w) in
-      let b = subst (Among eqb (getD l 0 0)) e a in
-      omega arith
-
-  repaired-is : (l : List ℕ) → (repairOf n sets ≡ some l) ↔ Repaired n sets l
-  repaired-is l = (λ r. one-owner s all n sets comes l r .0, λ p. go p (repairOf n sets) refl)
-    where
-      go : Repaired n sets l → (o : Option (List ℕ)) → repairOf n sets ≡ o → o ≡ some l
-      go p none r = absurd (owner-there l p (no-owner .0 r))
-      go p (some m) r = ap some (sym (no-other s all n sets comes m r l p))
+  pub unrepaired-is : (code item : ℕ) → (repairOf (with-owners n owners) ≡ refused code item) ↔ ((code ≡ 30) × (item ≡ 0) × NoOwner owners)
+  unrepaired-is code item =
+      let u = Repair.unrepaired s all (with-owners n owners) comes code item in (
+        λ e. let (c, i, z) = u .0 e in (c, i, all-from (λ o. o ≡ []) [] owners z),
+        λ (c, i, z). u .1 (c, i, λ t l. all-at (λ o. o ≡ []) [] owners t z l),
+      )
 
   -- What is answered after repair, and when there is none.
   module _ (count : List ℕ → ℕ) (f : List ℕ → List ℕ) where
-    pub after-answers : (item : ℕ) (l : List ℕ) → (afterRepair (λ o. bytes (count o) (f o)) (repairOf n sets) ≡ bytes item l) ↔ ((o : List ℕ) × Repaired n sets o × (l ≡ f o) × (item ≡ count o))
-    after-answers item l = (go (repairOf n sets) refl, from)
-      where
-        go : (r : Option (List ℕ)) → repairOf n sets ≡ r → afterRepair (λ o. bytes (count o) (f o)) r ≡ bytes item l → (o : List ℕ) × Repaired n sets o × (l ≡ f o) × (item ≡ count o)
-        go none r e = absurd (refusal-no-bytes 30 0 item l e)
-        go (some o) r e = let (a, b) = same-answer (count o) item (f o) l .0 e in (o, repaired-is o .0 r, a, b)
+    abbrev next : List ℕ → Outcome
+    next o = bytes (count o) (f o)
 
-        from : (o : List ℕ) × Repaired n sets o × (l ≡ f o) × (item ≡ count o) → afterRepair (λ o. bytes (count o) (f o)) (repairOf n sets) ≡ bytes item l
-        from (o, p, a, b) = ap (afterRepair (λ o. bytes (count o) (f o))) (repaired-is o .1 p) ∙ same-answer (count o) item (f o) l .1 (a, b)
+    pub after-answers : (item : ℕ) (l : List ℕ) → (andThen (repairOf (with-owners n owners)) (λ o. bytes (count o) (f o)) ≡ bytes item l) ↔ ((o : List ℕ) × Repaired n owners o × (l ≡ f o) × (item ≡ count o))
+    after-answers item l = (
+      λ e. let (o, p, q) = chain-value (repairOf (with-owners n owners)) next (record { item = item; text = l }) .0 e in let (a, b) = same-answer (count o) item (f o) l .0 q in (o, repaired-is o .0 p, a, b),
+      λ (o, p, a, b). chain-value (repairOf (with-owners n owners)) next (record { item = item; text = l }) .1 (o, repaired-is o .1 p, same-answer (count o) item (f o) l .1 (a, b)),
+    )
 
-    pub after-refuses : (code item : ℕ) → (afterRepair (λ o. bytes (count o) (f o)) (repairOf n sets) ≡ refusal code item) ↔ ((code ≡ 30) × (item ≡ 0) × NoOwner sets)
-    after-refuses code item = (go (repairOf n sets) refl, λ (c, i, z). ap (afterRepair (λ o. bytes (count o) (f o))) (no-owner .1 z) ∙ same-refusal 30 0 code item .1 (c, i))
-      where
-        go : (r : Option (List ℕ)) → repairOf n sets ≡ r → afterRepair (λ o. bytes (count o) (f o)) r ≡ refusal code item → (code ≡ 30) × (item ≡ 0) × NoOwner sets
-        go none r e = let (c, i) = same-refusal 30 0 code item .0 e in (c, i, no-owner .0 r)
-        go (some o) r e = absurd (bytes-no-refusal (count o) (f o) code item e)
+    pub after-refuses : (code item : ℕ) → (andThen (repairOf (with-owners n owners)) (λ o. bytes (count o) (f o)) ≡ refused code item) ↔ ((code ≡ 30) × (item ≡ 0) × NoOwner owners)
+    after-refuses code item = (
+      λ e. unrepaired-is code item .0 (elim (chain-refused (repairOf (with-owners n owners)) next code item .0 e) [ inl p ↦ p | inr (o, p, q) ↦ absurd (value-refused _ code item q) ]),
+      λ h. chain-refused (repairOf (with-owners n owners)) next code item .1 (inl (unrepaired-is code item .1 h)),
+    )
 
 -- ---- the polygon that is asked for
-asked : (n : Sheet) (k : ℕ) → T (leb 1 k && leb k (length (n .polygons))) ↔ OnSheet n k
+asked : (n : Sheet) (k : ℕ) → T (onSheet k n) ↔ OnSheet n k
 asked n k = (
   λ t. (
     omega (arith, leb→le 1 k (and-left (leb 1 k) (leb k (length (n .polygons))) t)),
@@ -91,14 +69,11 @@ asked n k = (
   λ (low, high). and-both (leb 1 k) (leb k (length (n .polygons))) (le→leb 1 k (omega (arith, low))) (le→leb k (length (n .polygons)) high),
 )
 
--- The boundary entry goes on to repair where the polygon is on the sheet, else to 41.
-module _ (n : Sheet) (sets : List ℕ) (k : ℕ) where
-  abbrev pub sidesBy : Outcome
-  sidesBy = afterRepair (λ o. sidesAfter (ownedSides n k o)) (repairOf n sets)
+pub asked-passes : (n : Sheet) (k : ℕ) → (needing (onSheet k n) 41 0 ≡ value tt) ↔ OnSheet n k
+asked-passes n k = Iff·trans (needing-value (onSheet k n) 41 0) (asked n k)
 
-  pub boundary-cases : (OnSheet n k × (boundaryOutcome k n sets ≡ sidesBy)) ⊎ ((OnSheet n k → ⊥) × (boundaryOutcome k n sets ≡ refusal 41 0))
-  boundary-cases = go (leb 1 k && leb k (length (n .polygons))) (asked n k)
-    where
-      go : (b : Bool) → T b ↔ OnSheet n k → (OnSheet n k × (cond b sidesBy (refusal 41 0) ≡ sidesBy)) ⊎ ((OnSheet n k → ⊥) × (cond b sidesBy (refusal 41 0) ≡ refusal 41 0))
-      go true a = inl (a .0 tt, refl)
-      go false a = inr (λ o. a .1 o, refl)
+pub asked-refused : (n : Sheet) (k code item : ℕ) → (needing (onSheet k n) 41 0 ≡ refused code item) ↔ ((code ≡ 41) × (item ≡ 0) × (OnSheet n k → ⊥))
+asked-refused n k code item = (
+  λ e. let (off, c, i) = needing-refused (onSheet k n) 41 0 code item .0 e in (c, i, λ on. off (asked n k .1 on)),
+  λ (c, i, off). needing-refused (onSheet k n) 41 0 code item .1 (λ t. off (asked n k .0 t), c, i),
+)

@@ -2,87 +2,59 @@
 -- which item; and exactly when it comes to a refusal, with which code and item. That the lent bytes suffice, or else 40, is in Room. Assumes nothing.
 use mathlib.Core.Path.{_≡_, refl, sym, _∙_, ap, subst}
 use mathlib.Core.Logic.{_↔_, Iff·trans, _⊎_, inl, inr, ⊎-elim}
-use mathlib.Core.Bool.{Bool, true, false}
-use mathlib.Core.List.{List, flatMap}
+use mathlib.Core.Bool.{Bool}
+use mathlib.Core.List.{List, map, flatMap}
 use mathlib.Core.Option.{Option, none, some}
 use Prim.Native.Nat.{ℕ, _<_}
 use native.Mathlib.Omega.{arith}
-use borrow.Author.Tests.{eqb-true, eqb-false}
-use lib.Dec.{T, eqb}
-use lib.IntN.{pos}
+use lib.Dec.{T}
 use lib.ListN.{length}
 use Rattle.whole.specs.Sums.{All}
-use Rattle.lent.specs.Answered.{Outcome, refusal, bytes}
+use Rattle.lent.specs.Stages.{Answer, value, refused, andThen, needing}
+use Rattle.lent.specs.Answered.{Written, Outcome, bytes}
+use Rattle.lent.proofs.Stages.{value-refused, same-refusal, chain-value, chain-refused}
 use Rattle.lent_little.specs.Bytes.{setBytes, sideBytes}
-use Rattle.sheet_form.specs.Numbers.{Sheet, numbersOf}
-use Rattle.sheet.specs.Reading.{readingOf}
-use Rattle.lent_text.specs.Text.{lineOf}
-use Rattle.listing_lines.specs.Lines.{refusedWord}
-use Rattle.listing.specs.Listing.{listingOf, listing as listingBy}
+use Rattle.owners_marks.specs.Marks.{setOf}
+use Rattle.sheet_form.specs.Numbers.{Sheet, members}
+use Rattle.sheet.specs.Read.{readSheet}
 use Rattle.sheet_written.specs.Fits.{sheetFits}
 use Rattle.sheet_written.specs.Given.{sheetGiven, writeOutcome}
-use Rattle.sheet.specs.Read.{ReadSheet, sheet, refused, readSheet}
 use Rattle.sheet_written.specs.Normal.{written}
-use Rattle.sheet_written.proofs.Given.{given-form, form-length}
-use Rattle.sheet_written.proofs.Held.{read-sheet-is, read-held, read-refused}
-use Rattle.judged.specs.Judged.{JudgedSheet, judged, refusal as refusedSheet, judgedSheet}
-use Rattle.repair_answers.specs.Answers.{afterRepair, numbersAfter}
-use Rattle.lent_sets.specs.Sets.{setsOutcome}
-use Rattle.outcomes.specs.Entries.{repairOf, ownedSides, boundaryOutcome}
-use Rattle.outcomes.proofs.Outcomes.{numbers-read, numbers-unread}
-use Rattle.demands.specs.Answers.{formOf, HasSets, Refused, NoOwner, Repaired, OnSheet}
+use Rattle.sheet_written.proofs.Given.{given-form}
+use Rattle.judged.specs.Judged.{Judged, judgedSheet, repairOf}
+use Rattle.listing_lines.specs.Lines.{refusedLine}
+use Rattle.listing.specs.Listing.{listingOf, listing as listingBy}
+use Rattle.outcomes.specs.declared.Wanted.the-variants.{OwnerSets, Owners, Boundary}
+use Rattle.outcomes.specs.Entries.{formOf, formOutcome, onSheet, ownedSides, sidesAfter, goesOn}
+use Rattle.demands.specs.Answers.{HasOwners, HasSets, Refused, NoOwner, Repaired, OnSheet}
 use Rattle.demands.specs.Entries.{numbers, write, ownerSets, owners, boundary, listing, outcomeOf}
-use Rattle.demands.proofs.Sets.{has-sets, is-refused, answers-on, refuses-on}
-use Rattle.demands.proofs.After.{same-answer, same-refusal, bytes-no-refusal, refusal-no-bytes, after-answers, after-refuses, sidesBy, boundary-cases}
+use Rattle.demands.proofs.Sets.{with-owners, has-owners, has-sets, owners-each, is-refused, answers-on, refuses-on}
+use Rattle.demands.proofs.After.{same-answer, after-answers, after-refuses, asked-passes, asked-refused}
 
--- ---- what the entries come to, by reading, by what is given, by judging
--- The numbers entry, by reading.
-abbrev numbersBy : ReadSheet → Outcome
-numbersBy (sheet n) = bytes (length (formOf n)) (formOf n)
-numbersBy (refused code item) = refusal code item
+-- ---- what the boundary entry goes on to, for a sheet with its owners
+module _ (s : List ℕ) (all : All (λ b. b < 256) s) (n : Sheet) (sets : List (List ℕ)) (h : HasOwners s n sets) (k : ℕ) where
+  abbrev then-sides : Unit {0} → Outcome
+  then-sides u = andThen (repairOf (with-owners n sets)) (λ o. sidesAfter (ownedSides n k o))
 
-numbers-by : (s : List ℕ) → All (λ b. b < 256) s → outcomeOf numbers s ≡ numbersBy (readSheet s)
-numbers-by s all = go (eqb (readingOf s .code) 0) refl
-  where
-    go : (b : Bool) → eqb (readingOf s .code) 0 ≡ b → outcomeOf numbers s ≡ numbersBy (readSheet s)
-    go true e =
-        let (n, h, r) = read-held s all (eqb-true (readingOf s .code) 0 e) in
-        numbers-read s n (read-sheet-is s n .0 r) ∙ ap (λ k. bytes k (formOf n)) (sym (form-length (numbersOf n))) ∙ ap numbersBy (sym r)
-    go false e = let h = eqb-false (readingOf s .code) 0 e in numbers-unread s h ∙ ap numbersBy (sym (read-refused s h))
-
--- The owner entry and the boundary entry, by what they go on to.
-abbrev ownersBy : Sheet → List ℕ → Outcome
-ownersBy n sets = afterRepair numbersAfter (repairOf n sets)
-
-module _ (s : List ℕ) (all : All (λ b. b < 256) s) (n : Sheet) (sets : List ℕ) (h : HasSets s n sets) (k : ℕ) where
   boundary-answers-by : (item : ℕ) (l : List ℕ)
-      → (boundaryOutcome k n sets ≡ bytes item l) ↔ (OnSheet n k × (o : List ℕ) × Repaired n sets o × (l ≡ flatMap sideBytes (ownedSides n k o)) × (item ≡ length (ownedSides n k o)))
-  boundary-answers-by item l = go (boundary-cases n sets k)
-    where
-      after : (sidesBy n sets k ≡ bytes item l) ↔ ((o : List ℕ) × Repaired n sets o × (l ≡ flatMap sideBytes (ownedSides n k o)) × (item ≡ length (ownedSides n k o)))
-      after = after-answers s all n sets h (λ o. length (ownedSides n k o)) (λ o. flatMap sideBytes (ownedSides n k o)) item l
-
-      go : (OnSheet n k × (boundaryOutcome k n sets ≡ sidesBy n sets k)) ⊎ ((OnSheet n k → ⊥) × (boundaryOutcome k n sets ≡ refusal 41 0))
-          → (boundaryOutcome k n sets ≡ bytes item l) ↔ (OnSheet n k × (o : List ℕ) × Repaired n sets o × (l ≡ flatMap sideBytes (ownedSides n k o)) × (item ≡ length (ownedSides n k o)))
-      go (inl (on, e)) = (λ q. let (o, p, f, i) = after .0 (sym e ∙ q) in (on, o, p, f, i), λ (on, o, p, f, i). e ∙ after .1 (o, p, f, i))
-      go (inr (off, e)) = (λ q. absurd (refusal-no-bytes 41 0 item l (sym e ∙ q)), λ (on, o, p, f, i). absurd (off on))
+      → (goesOn (Boundary k) (with-owners n sets) ≡ bytes item l) ↔ (OnSheet n k × (o : List ℕ) × Repaired n sets o × (l ≡ flatMap sideBytes (ownedSides n k o)) × (item ≡ length (ownedSides n k o)))
+  boundary-answers-by item l =
+      let w : Written = record { item = item; text = l } in
+      let after = after-answers s all n sets h (λ o. length (ownedSides n k o)) (λ o. flatMap sideBytes (ownedSides n k o)) item l in (
+        λ e. let (u, p, q) = chain-value (needing (onSheet k n) 41 0) then-sides w .0 e in let (o, r, f, i) = after .0 q in (asked-passes n k .0 p, o, r, f, i),
+        λ (on, o, r, f, i). chain-value (needing (onSheet k n) 41 0) then-sides w .1 (tt, asked-passes n k .1 on, after .1 (o, r, f, i)),
+      )
 
   boundary-refuses-by : (code item : ℕ)
-      → (boundaryOutcome k n sets ≡ refusal code item) ↔ (((code ≡ 41) × (item ≡ 0) × (OnSheet n k → ⊥)) ⊎ ((code ≡ 30) × (item ≡ 0) × OnSheet n k × NoOwner sets))
-  boundary-refuses-by code item = go (boundary-cases n sets k)
-    where
-      after : (sidesBy n sets k ≡ refusal code item) ↔ ((code ≡ 30) × (item ≡ 0) × NoOwner sets)
-      after = after-refuses s all n sets h (λ o. length (ownedSides n k o)) (λ o. flatMap sideBytes (ownedSides n k o)) code item
-
-      go : (OnSheet n k × (boundaryOutcome k n sets ≡ sidesBy n sets k)) ⊎ ((OnSheet n k → ⊥) × (boundaryOutcome k n sets ≡ refusal 41 0))
-          → (boundaryOutcome k n sets ≡ refusal code item) ↔ (((code ≡ 41) × (item ≡ 0) × (OnSheet n k → ⊥)) ⊎ ((code ≡ 30) × (item ≡ 0) × OnSheet n k × NoOwner sets))
-      go (inl (on, e)) = (
-        λ q. let (c, i, z) = after .0 (sym e ∙ q) in inr (c, i, on, z),
-        ⊎-elim (λ (c, i, off). absurd (off on)) (λ (c, i, on, z). e ∙ after .1 (c, i, z)),
-      )
-      go (inr (off, e)) = (
-        λ q. let (c, i) = same-refusal 41 0 code item .0 (sym e ∙ q) in inl (c, i, off),
-        ⊎-elim (λ (c, i, off). e ∙ same-refusal 41 0 code item .1 (c, i)) (λ (c, i, on, z). absurd (off on)),
+      → (goesOn (Boundary k) (with-owners n sets) ≡ refused code item) ↔ (((code ≡ 41) × (item ≡ 0) × (OnSheet n k → ⊥)) ⊎ ((code ≡ 30) × (item ≡ 0) × OnSheet n k × NoOwner sets))
+  boundary-refuses-by code item =
+      let after = after-refuses s all n sets h (λ o. length (ownedSides n k o)) (λ o. flatMap sideBytes (ownedSides n k o)) code item in (
+        λ e. elim (chain-refused (needing (onSheet k n) 41 0) then-sides code item .0 e) [
+          | inl p ↦ inl (asked-refused n k code item .0 p)
+          | inr (u, p, q) ↦ let (c, i, z) = after .0 q in inr (c, i, asked-passes n k .0 p, z)
+        ],
+        ⊎-elim (λ r. chain-refused (needing (onSheet k n) 41 0) then-sides code item .1 (inl (asked-refused n k code item .1 r)))
+            (λ (c, i, on, z). chain-refused (needing (onSheet k n) 41 0) then-sides code item .1 (inr (tt, asked-passes n k .1 on, after .1 (c, i, z)))),
       )
 
 -- ---- the entries, for every sequence of bytes
@@ -90,112 +62,116 @@ module _ (s : List ℕ) (all : All (λ b. b < 256) s) where
   -- ---- sheet_numbers
   -- "The numbers entry writes a sheet as little-endian i32": it answers exactly if the bytes are read as a sheet, and then the sheet's numbers form;
   -- "for the writer and the numbers entry" the item "is the number of bytes".
-  pub numbers-answers : (item : ℕ) (l : List ℕ) → (outcomeOf numbers s ≡ bytes item l) ↔ ((n : Sheet) × (readSheet s ≡ sheet n) × (l ≡ formOf n) × (item ≡ length (formOf n)))
-  numbers-answers item l = (λ q. go (readSheet s) refl (sym (numbers-by s all) ∙ q), λ (n, r, e, i). numbers-by s all ∙ ap numbersBy r ∙ same-answer _ item _ l .1 (e, i))
-    where
-      go : (r : ReadSheet) → readSheet s ≡ r → numbersBy r ≡ bytes item l → (n : Sheet) × (readSheet s ≡ sheet n) × (l ≡ formOf n) × (item ≡ length (formOf n))
-      go (sheet n) r q = let (e, i) = same-answer (length (formOf n)) item (formOf n) l .0 q in (n, r, e, i)
-      go (refused code k) r q = absurd (refusal-no-bytes code k item l q)
+  pub numbers-answers : (item : ℕ) (l : List ℕ) → (outcomeOf numbers s ≡ bytes item l) ↔ ((n : Sheet) × (readSheet members s ≡ value n) × (l ≡ formOf n) × (item ≡ length (formOf n)))
+  numbers-answers item l = (
+    λ e. let (n, p, q) = chain-value (readSheet members s) formOutcome (record { item = item; text = l }) .0 e in let (f, i) = same-answer (length (formOf n)) item (formOf n) l .0 q in (n, p, f, i),
+    λ (n, p, f, i). chain-value (readSheet members s) formOutcome (record { item = item; text = l }) .1 (n, p, same-answer (length (formOf n)) item (formOf n) l .1 (f, i)),
+  )
 
   -- Otherwise it gives the refusal of reading: "After reading, the numbers entry has only 40."
-  pub numbers-refuses : (code item : ℕ) → (outcomeOf numbers s ≡ refusal code item) ↔ (readSheet s ≡ refused code item)
-  numbers-refuses code item = (λ q. go (readSheet s) (sym (numbers-by s all) ∙ q), λ r. numbers-by s all ∙ ap numbersBy r)
-    where
-      go : (r : ReadSheet) → numbersBy r ≡ refusal code item → r ≡ refused code item
-      go (sheet n) q = absurd (bytes-no-refusal (length (formOf n)) (formOf n) code item q)
-      go (refused number k) q = let (c, i) = same-refusal number k code item .0 q in λ j. refused (sym c j) (sym i j)
+  pub numbers-refuses : (code item : ℕ) → (outcomeOf numbers s ≡ refused code item) ↔ (readSheet members s ≡ refused code item)
+  numbers-refuses code item = (
+    λ e. elim (chain-refused (readSheet members s) formOutcome code item .0 e) [ inl p ↦ p | inr (n, p, q) ↦ absurd (value-refused _ code item q) ],
+    λ p. chain-refused (readSheet members s) formOutcome code item .1 (inl p),
+  )
 
   -- ---- sheet_write
   -- "The writer takes this form": it answers exactly if the bytes are the numbers form of a sheet within the limits, and then the sheet's normal
   -- bytes; the item is their number.
   pub write-answers : (item : ℕ) (l : List ℕ)
-      → (outcomeOf write s ≡ bytes item l) ↔ ((n : Sheet) × T (sheetFits n) × (formOf n ≡ s) × (l ≡ written n) × (item ≡ length (written n)))
-  write-answers item l = (go (sheetGiven s) refl, λ (n, t, f, e, i). ap writeOutcome (given-form s all n .1 (t, f)) ∙ same-answer _ item _ l .1 (e, i))
+      → (outcomeOf write s ≡ bytes item l) ↔ ((n : Sheet) × T (sheetFits members n) × (formOf n ≡ s) × (l ≡ written n) × (item ≡ length (written n)))
+  write-answers item l = (go (sheetGiven members s) refl, λ (n, t, f, e, i). ap writeOutcome (given-form members (omega arith) s all n .1 (t, f)) ∙ same-answer _ item _ l .1 (e, i))
     where
-      go : (o : Option Sheet) → sheetGiven s ≡ o → writeOutcome o ≡ bytes item l → (n : Sheet) × T (sheetFits n) × (formOf n ≡ s) × (l ≡ written n) × (item ≡ length (written n))
-      go none g q = absurd (refusal-no-bytes 42 0 item l q)
+      go : (o : Option Sheet) → sheetGiven members s ≡ o → writeOutcome o ≡ bytes item l → (n : Sheet) × T (sheetFits members n) × (formOf n ≡ s) × (l ≡ written n) × (item ≡ length (written n))
+      go none g q = absurd (value-refused _ 42 0 (sym q))
       go (some n) g q =
-          let (t, f) = given-form s all n .0 g in
+          let (t, f) = given-form members (omega arith) s all n .0 g in
           let (e, i) = same-answer (length (written n)) item (written n) l .0 q in
           (n, t, f, e, i)
 
   -- "42: numbers given to the writer break a limit, range or closing, or don't make up a whole sheet", item 0: the bytes are the numbers form of no
   -- sheet within the limits.
-  pub write-refuses : (code item : ℕ) → (outcomeOf write s ≡ refusal code item) ↔ ((code ≡ 42) × (item ≡ 0) × ((n : Sheet) → T (sheetFits n) → formOf n ≡ s → ⊥))
-  write-refuses code item = (to (sheetGiven s) refl, λ (c, i, f). from f (sheetGiven s) refl ∙ same-refusal 42 0 code item .1 (c, i))
+  pub write-refuses : (code item : ℕ) → (outcomeOf write s ≡ refused code item) ↔ ((code ≡ 42) × (item ≡ 0) × ((n : Sheet) → T (sheetFits members n) → formOf n ≡ s → ⊥))
+  write-refuses code item = (to (sheetGiven members s) refl, λ (c, i, f). from f (sheetGiven members s) refl ∙ same-refusal {A = Written} 42 0 code item .1 (c, i))
     where
-      to : (o : Option Sheet) → sheetGiven s ≡ o → writeOutcome o ≡ refusal code item → (code ≡ 42) × (item ≡ 0) × ((n : Sheet) → T (sheetFits n) → formOf n ≡ s → ⊥)
+      to : (o : Option Sheet) → sheetGiven members s ≡ o → writeOutcome o ≡ refused code item → (code ≡ 42) × (item ≡ 0) × ((n : Sheet) → T (sheetFits members n) → formOf n ≡ s → ⊥)
       to none g q =
-          let (c, i) = same-refusal 42 0 code item .0 q in
-          (c, i, λ n t f. let e : none ≡ some n = sym g ∙ given-form s all n .1 (t, f) in let z : _≡_ {A = ℕ} 0 1 = cc e in omega arith)
-      to (some n) g q = absurd (bytes-no-refusal (length (written n)) (written n) code item q)
+          let (c, i) = same-refusal {A = Written} 42 0 code item .0 q in
+          (c, i, λ n t f. let e : none ≡ some n = sym g ∙ given-form members (omega arith) s all n .1 (t, f) in let z : _≡_ {A = ℕ} 0 1 = cc e in omega arith)
+      to (some n) g q = absurd (value-refused _ code item q)
 
-      from : ((n : Sheet) → T (sheetFits n) → formOf n ≡ s → ⊥) → (o : Option Sheet) → sheetGiven s ≡ o → writeOutcome o ≡ refusal 42 0
+      from : ((n : Sheet) → T (sheetFits members n) → formOf n ≡ s → ⊥) → (o : Option Sheet) → sheetGiven members s ≡ o → writeOutcome o ≡ refused 42 0
       from f none g = refl
-      from f (some n) g = absurd (let (t, e) = given-form s all n .0 g in f n t e)
+      from f (some n) g = absurd (let (t, e) = given-form members (omega arith) s all n .0 g in f n t e)
 
   -- ---- the entries that judge
-  -- Every sequence of bytes has owner sets, or is refused before any owner is known.
-  pub sets-or-refused : ((n : Sheet) × (sets : List ℕ) × HasSets s n sets) ⊎ ((code : ℕ) × (item : ℕ) × Refused s code item)
-  sets-or-refused = go (judgedSheet s) refl
+  -- Every sequence of bytes has owners, or is refused before any owner is known.
+  pub owners-or-refused : ((n : Sheet) × (o : List (List ℕ)) × HasOwners s n o) ⊎ ((code : ℕ) × (item : ℕ) × Refused s code item)
+  owners-or-refused = go (judgedSheet s) refl
     where
-      go : (j : JudgedSheet) → judgedSheet s ≡ j → ((n : Sheet) × (sets : List ℕ) × HasSets s n sets) ⊎ ((code : ℕ) × (item : ℕ) × Refused s code item)
-      go (judged n sets) e = inl (n, sets, has-sets s n sets .0 e)
-      go (refusedSheet code item) e = inr (code, item, is-refused s code item .0 e)
+      go : (j : Answer Judged) → judgedSheet s ≡ j → ((n : Sheet) × (o : List (List ℕ)) × HasOwners s n o) ⊎ ((code : ℕ) × (item : ℕ) × Refused s code item)
+      go (value j) e = inl (j .sheet, j .owners, has-owners s (j .sheet) (j .owners) .0 e)
+      go (refused code item) e = inr (code, item, is-refused s code item .0 e)
 
   -- ---- sheet_owner_sets
   -- "The set entry writes each triangle's owners before repair, in table order, as a little-endian u64 whose bit k-1 stands for polygon k"; "the item
   -- is the number of triangles". It answers exactly if the bytes have owner sets,
   pub owner-sets-answers : (item : ℕ) (l : List ℕ)
       → (outcomeOf ownerSets s ≡ bytes item l) ↔ ((n : Sheet) × (sets : List ℕ) × HasSets s n sets × (l ≡ flatMap setBytes sets) × (item ≡ length (n .table)))
-  owner-sets-answers item l = Iff·trans (answers-on s (λ n sets. setsOutcome sets) item l) (
-    λ (n, sets, h, e). let (f, i) = same-answer (length sets) item (flatMap setBytes sets) l .0 e in (n, sets, h, f, i ∙ h .each),
-    λ (n, sets, h, f, i). (n, sets, h, same-answer (length sets) item (flatMap setBytes sets) l .1 (f, i ∙ sym (h .each))),
+  owner-sets-answers item l = Iff·trans (answers-on s (goesOn OwnerSets) (record { item = item; text = l })) (
+    λ (n, o, h, e).
+        let sets = map setOf o in
+        let w = has-sets sets .0 (o, h, refl) in
+        let (f, i) = same-answer (length sets) item (flatMap setBytes sets) l .0 e in
+        (n, sets, w, f, i ∙ w .each),
+    λ (n, sets, w, f, i).
+        let (o, h, e) = has-sets sets .1 w in
+        (n, o, h, ap (λ x. bytes (length x) (flatMap setBytes x)) (sym e) ∙ same-answer (length sets) item (flatMap setBytes sets) l .1 (f, i ∙ sym (w .each))),
   )
 
   -- and is refused exactly as the bytes are before any owner is known: by reading, or with 10, 11, 12 or 20.
-  pub owner-sets-refuses : (code item : ℕ) → (outcomeOf ownerSets s ≡ refusal code item) ↔ Refused s code item
-  owner-sets-refuses code item = Iff·trans (refuses-on s (λ n sets. setsOutcome sets) code item) (
-    ⊎-elim (λ r. r) (λ (n, sets, h, e). absurd (bytes-no-refusal (length sets) (flatMap setBytes sets) code item e)),
+  pub owner-sets-refuses : (code item : ℕ) → (outcomeOf ownerSets s ≡ refused code item) ↔ Refused s code item
+  owner-sets-refuses code item = Iff·trans (refuses-on s (goesOn OwnerSets) code item) (
+    ⊎-elim (λ r. r) (λ (n, o, h, e). absurd (value-refused _ code item e)),
     inl,
   )
 
   -- ---- sheet_owners
   -- "The owner entry writes one byte per triangle in table order, its number after repair"; the item is the number of triangles. It answers exactly
-  -- if the bytes have owner sets and some triangle has an owner, and then the one owner of each,
+  -- if the bytes have owners and some triangle has one, and then the one owner of each,
   pub owners-answers : (item : ℕ) (l : List ℕ)
-      → (outcomeOf owners s ≡ bytes item l) ↔ ((n : Sheet) × (sets : List ℕ) × HasSets s n sets × Repaired n sets l × (item ≡ length (n .table)))
-  owners-answers item l = Iff·trans (answers-on s ownersBy item l) (
-    λ (n, sets, h, e). let (o, p, f, i) = after-answers s all n sets h length (λ o. o) item l .0 e in (n, sets, h, subst (Repaired n sets) (sym f) p, i ∙ p .each ∙ h .each),
-    λ (n, sets, h, p, i). (n, sets, h, after-answers s all n sets h length (λ o. o) item l .1 (l, p, refl, i ∙ sym (p .each ∙ h .each))),
+      → (outcomeOf owners s ≡ bytes item l) ↔ ((n : Sheet) × (sets : List (List ℕ)) × HasOwners s n sets × Repaired n sets l × (item ≡ length (n .table)))
+  owners-answers item l = Iff·trans (answers-on s (goesOn Owners) (record { item = item; text = l })) (
+    λ (n, sets, h, e). let (o, p, f, i) = after-answers s all n sets h length (λ o. o) item l .0 e in (n, sets, h, subst (Repaired n sets) (sym f) p, i ∙ p .0 .each ∙ owners-each h),
+    λ (n, sets, h, p, i). (n, sets, h, after-answers s all n sets h length (λ o. o) item l .1 (l, p, refl, i ∙ sym (p .0 .each ∙ owners-each h))),
   )
 
   -- and is refused as the set entry is, then with 30: "Repair can't be done exactly if no triangle has an owner."
   pub owners-refuses : (code item : ℕ)
-      → (outcomeOf owners s ≡ refusal code item) ↔ (Refused s code item ⊎ ((code ≡ 30) × (item ≡ 0) × (n : Sheet) × (sets : List ℕ) × HasSets s n sets × NoOwner sets))
-  owners-refuses code item = Iff·trans (refuses-on s ownersBy code item) (
+      → (outcomeOf owners s ≡ refused code item) ↔ (Refused s code item ⊎ ((code ≡ 30) × (item ≡ 0) × (n : Sheet) × (sets : List (List ℕ)) × HasOwners s n sets × NoOwner sets))
+  owners-refuses code item = Iff·trans (refuses-on s (goesOn Owners) code item) (
     ⊎-elim inl (λ (n, sets, h, e). let (c, i, z) = after-refuses s all n sets h length (λ o. o) code item .0 e in inr (c, i, n, sets, h, z)),
     ⊎-elim inl (λ (c, i, n, sets, h, z). inr (n, sets, h, after-refuses s all n sets h length (λ o. o) code item .1 (c, i, z))),
   )
 
   -- ---- sheet_boundary
   -- "The boundary entry writes, for a member asked by polygon number, each side uv of its triangles after repair whose vu is no side of those: ux, uy,
-  -- vx, vy as little-endian i32"; the item is the number of sides. It answers exactly if the bytes have owner sets, the polygon is on the sheet and some
+  -- vx, vy as little-endian i32"; the item is the number of sides. It answers exactly if the bytes have owners, the polygon is on the sheet and some
   -- triangle has an owner,
   pub boundary-answers : (k item : ℕ) (l : List ℕ)
-      → (outcomeOf (boundary k) s ≡ bytes item l) ↔ ((n : Sheet) × (sets : List ℕ) × HasSets s n sets × OnSheet n k
+      → (outcomeOf (boundary k) s ≡ bytes item l) ↔ ((n : Sheet) × (sets : List (List ℕ)) × HasOwners s n sets × OnSheet n k
       × (o : List ℕ) × Repaired n sets o × (l ≡ flatMap sideBytes (ownedSides n k o)) × (item ≡ length (ownedSides n k o)))
-  boundary-answers k item l = Iff·trans (answers-on s (boundaryOutcome k) item l) (
+  boundary-answers k item l = Iff·trans (answers-on s (goesOn (Boundary k)) (record { item = item; text = l })) (
     λ (n, sets, h, e). let (on, o, p, f, i) = boundary-answers-by s all n sets h k item l .0 e in (n, sets, h, on, o, p, f, i),
     λ (n, sets, h, on, o, p, f, i). (n, sets, h, boundary-answers-by s all n sets h k item l .1 (on, o, p, f, i)),
   )
 
   -- and is refused as the set entry is, then with 41 where the "asked member isn't on the sheet", then with 30.
   pub boundary-refuses : (k code item : ℕ)
-      → (outcomeOf (boundary k) s ≡ refusal code item) ↔ (Refused s code item
-      ⊎ ((code ≡ 41) × (item ≡ 0) × (n : Sheet) × (sets : List ℕ) × HasSets s n sets × (OnSheet n k → ⊥))
-      ⊎ ((code ≡ 30) × (item ≡ 0) × (n : Sheet) × (sets : List ℕ) × HasSets s n sets × OnSheet n k × NoOwner sets))
-  boundary-refuses k code item = Iff·trans (refuses-on s (boundaryOutcome k) code item) (
+      → (outcomeOf (boundary k) s ≡ refused code item) ↔ (Refused s code item
+      ⊎ ((code ≡ 41) × (item ≡ 0) × (n : Sheet) × (sets : List (List ℕ)) × HasOwners s n sets × (OnSheet n k → ⊥))
+      ⊎ ((code ≡ 30) × (item ≡ 0) × (n : Sheet) × (sets : List (List ℕ)) × HasOwners s n sets × OnSheet n k × NoOwner sets))
+  boundary-refuses k code item = Iff·trans (refuses-on s (goesOn (Boundary k)) code item) (
     ⊎-elim inl (λ (n, sets, h, e). inr (⊎-elim (λ (c, i, off). inl (c, i, n, sets, h, off)) (λ (c, i, on, z). inr (c, i, n, sets, h, on, z)) (boundary-refuses-by s all n sets h k code item .0 e))),
     ⊎-elim inl (⊎-elim
         (λ (c, i, n, sets, h, off). inr (n, sets, h, boundary-refuses-by s all n sets h k code item .1 (inl (c, i, off))))
@@ -203,29 +179,29 @@ module _ (s : List ℕ) (all : All (λ b. b < 256) s) where
   )
 
   -- ---- sheet_listing
-  -- It answers for every sequence of bytes, and the item is the number of bytes: the listing of the sheet with its owner sets; "an earlier refusal prints
+  -- It answers for every sequence of bytes, and the item is the number of bytes: the listing of the sheet with its owners; "an earlier refusal prints
   -- only `refused` code item".
   pub listing-answers : (item : ℕ) (l : List ℕ)
-      → (outcomeOf listing s ≡ bytes item l) ↔ ((item ≡ length l) × (((n : Sheet) × (sets : List ℕ) × HasSets s n sets × (l ≡ listingOf n sets))
-      ⊎ ((code : ℕ) × (k : ℕ) × Refused s code k × (l ≡ lineOf refusedWord (pos code) (pos k)))))
+      → (outcomeOf listing s ≡ bytes item l) ↔ ((item ≡ length l) × (((n : Sheet) × (o : List (List ℕ)) × HasOwners s n o × (l ≡ listingOf (record { sheet = n; owners = o })))
+      ⊎ ((code : ℕ) × (k : ℕ) × Refused s code k × (l ≡ refusedLine code k))))
   listing-answers item l = (to (judgedSheet s) refl, λ (i, text). from i text)
     where
-      to : (j : JudgedSheet) → judgedSheet s ≡ j → bytes (length (listingBy j)) (listingBy j) ≡ bytes item l
-          → (item ≡ length l) × (((n : Sheet) × (sets : List ℕ) × HasSets s n sets × (l ≡ listingOf n sets)) ⊎ ((code : ℕ) × (k : ℕ) × Refused s code k × (l ≡ lineOf refusedWord (pos code) (pos k))))
-      to (judged n sets) j e = let (f, i) = same-answer _ item _ l .0 e in (i ∙ ap length (sym f), inl (n, sets, has-sets s n sets .0 j, f))
-      to (refusedSheet code k) j e = let (f, i) = same-answer _ item _ l .0 e in (i ∙ ap length (sym f), inr (code, k, is-refused s code k .0 j, f))
+      to : (j : Answer Judged) → judgedSheet s ≡ j → bytes (length (listingBy j)) (listingBy j) ≡ bytes item l
+          → (item ≡ length l) × (((n : Sheet) × (o : List (List ℕ)) × HasOwners s n o × (l ≡ listingOf (record { sheet = n; owners = o }))) ⊎ ((code : ℕ) × (k : ℕ) × Refused s code k × (l ≡ refusedLine code k)))
+      to (value j) p e = let (f, i) = same-answer _ item _ l .0 e in (i ∙ ap length (sym f), inl (j .sheet, j .owners, has-owners s (j .sheet) (j .owners) .0 p, f))
+      to (refused code k) p e = let (f, i) = same-answer _ item _ l .0 e in (i ∙ ap length (sym f), inr (code, k, is-refused s code k .0 p, f))
 
-      prints : (j : JudgedSheet) → judgedSheet s ≡ j → item ≡ length l → l ≡ listingBy j → outcomeOf listing s ≡ bytes item l
+      prints : (j : Answer Judged) → judgedSheet s ≡ j → item ≡ length l → l ≡ listingBy j → outcomeOf listing s ≡ bytes item l
       prints j e i f = ap (λ j. bytes (length (listingBy j)) (listingBy j)) e ∙ same-answer _ item _ l .1 (f, i ∙ ap length f)
 
-      from : item ≡ length l → ((n : Sheet) × (sets : List ℕ) × HasSets s n sets × (l ≡ listingOf n sets)) ⊎ ((code : ℕ) × (k : ℕ) × Refused s code k × (l ≡ lineOf refusedWord (pos code) (pos k)))
+      from : item ≡ length l → ((n : Sheet) × (o : List (List ℕ)) × HasOwners s n o × (l ≡ listingOf (record { sheet = n; owners = o }))) ⊎ ((code : ℕ) × (k : ℕ) × Refused s code k × (l ≡ refusedLine code k))
           → outcomeOf listing s ≡ bytes item l
-      from i (inl (n, sets, h, f)) = prints (judged n sets) (has-sets s n sets .1 h) i f
-      from i (inr (code, k, r, f)) = prints (refusedSheet code k) (is-refused s code k .1 r) i f
+      from i (inl (n, o, h, f)) = prints (value (with-owners n o)) (has-owners s n o .1 h) i f
+      from i (inr (code, k, r, f)) = prints (refused code k) (is-refused s code k .1 r) i f
 
   pub listing-always : (l : List ℕ) × (outcomeOf listing s ≡ bytes (length l) l)
   listing-always = (listingBy (judgedSheet s), refl)
 
   -- Never is it refused.
-  pub listing-refuses-nothing : (code item : ℕ) → outcomeOf listing s ≡ refusal code item → ⊥
-  listing-refuses-nothing code item e = bytes-no-refusal _ _ code item e
+  pub listing-refuses-nothing : (code item : ℕ) → outcomeOf listing s ≡ refused code item → ⊥
+  listing-refuses-nothing code item e = value-refused _ code item e

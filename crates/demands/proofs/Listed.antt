@@ -11,9 +11,10 @@ use lib.Dec.{T, eqb, leb, ltb, eqb→eq, leb→le, le→leb, ltb→lt}
 use lib.ListN.{length, getD}
 use Rattle.whole.specs.Sums.{All, any}
 use Rattle.whole.proofs.Sums.{and-left, and-right, and-both, every-all}
-use Rattle.lent.specs.Answered.{refusal}
+use Rattle.lent.specs.Stages.{refused}
 use Rattle.sheet.proofs.Refusals.{Lawful}
-use Rattle.sheet.specs.Read.{refused as unreadable, readSheet}
+use Rattle.sheet_form.specs.Numbers.{members}
+use Rattle.sheet.specs.Read.{readSheet}
 use Rattle.demands.specs.Refusals.{Row, alone, rows, inRow, Listed}
 use Rattle.demands.specs.Entries.{Entry, numbers, write, ownerSets, owners, boundary, listing, outcomeOf}
 use Rattle.demands.specs.Answers.{Refused, unread, breaks-A, breaks-B, breaks-C, not-carried}
@@ -77,10 +78,10 @@ code-fits code item = go rows (every-all small Small small-is rows tt)
         choose false f g t = g t
 
 -- ---- from reading
-pub no-higher : (code item : ℕ) → 9 ≤ code → Lawful code item → ⊥
+pub no-higher : (code item : ℕ) → 9 ≤ code → Lawful members code item → ⊥
 no-higher code item h = rw (ne-eqb code 0 (λ e. omega arith), ne-eqb code 7 (λ e. omega arith), lt-leb code 8 h) (λ t. t)
 
-lawful-listed : (code item : ℕ) → (code ≡ 0 → ⊥) × Lawful code item → Listed code item
+lawful-listed : (code item : ℕ) → (code ≡ 0 → ⊥) × Lawful members code item → Listed code item
 lawful-listed zero item h = absurd (h .0 refl)
 lawful-listed (suc zero) item h = in-row 0 item (omega arith) (omega arith) (leb→le item 65 (h .1))
 lawful-listed (suc (suc zero)) item h = in-row 1 item (omega arith) (omega arith) (leb→le item 65 (h .1))
@@ -94,7 +95,7 @@ lawful-listed (suc (suc (suc (suc (suc (suc (suc (suc (suc code))))))))) item h 
 
 -- ---- from the entries
 module _ (s : List ℕ) (all : All (λ b. b < 256) s) where
-  unread-listed : (code item : ℕ) → readSheet s ≡ unreadable code item → Listed code item
+  unread-listed : (code item : ℕ) → readSheet members s ≡ refused code item → Listed code item
   unread-listed code item e = lawful-listed code item (read-lawful s code item e)
 
   refused-listed : {code item : ℕ} → Refused s code item → Listed code item
@@ -108,7 +109,7 @@ module _ (s : List ℕ) (all : All (λ b. b < 256) s) where
   alone-listed : (i : ℕ) → i < length rows → row i .from ≡ 0 → {code item : ℕ} → code ≡ row i .code → item ≡ 0 → Listed code item
   alone-listed i h e {code} {item} c z = subst (λ n. Listed n item) (sym c) (in-row i item h (omega arith) (omega arith))
 
-  pub outcome-listed : (e : Entry) (code item : ℕ) → outcomeOf e s ≡ refusal code item → Listed code item
+  pub outcome-listed : (e : Entry) (code item : ℕ) → outcomeOf e s ≡ refused code item → Listed code item
   outcome-listed numbers code item q = unread-listed code item (numbers-refuses s all code item .0 q)
   outcome-listed write code item q = let (c, i, f) = write-refuses s all code item .0 q in alone-listed 15 (omega arith) refl c i
   outcome-listed ownerSets code item q = refused-listed (owner-sets-refuses s all code item .0 q)

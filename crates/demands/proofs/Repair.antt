@@ -2,7 +2,6 @@
 use mathlib.Core.Path.{_≡_}
 use mathlib.Core.Logic.{_↔_}
 use mathlib.Core.List.{List, [], _∷_}
-use mathlib.Core.Option.{none, some}
 use Prim.Native.Nat.{ℕ, _≤_, _<_}
 use native.Mathlib.Omega.{arith}
 use lib.IntN.{pos}
@@ -12,64 +11,71 @@ use Rattle.whole.specs.Sums.{All, Among, count, sum}
 use Rattle.plane.specs.Points.{Edge, sameEdge, double}
 use Rattle.plane.specs.Boundaries.{boundary, sidesOf}
 use Rattle.plane.specs.Members.{doubleArea}
-use Rattle.table.specs.Table.{corners, frame}
+use Rattle.lent.specs.Stages.{value, refused}
+use Rattle.table.specs.Table.{corners, frameOf, rectangle}
 use Rattle.table.specs.Opposites.{opposites}
 use Rattle.repair_regions.specs.Regions.{from}
-use Rattle.repair.specs.OneOwner.{OneOwner, ownersAt}
+use Rattle.repair.specs.Repair.{largest}
+use Rattle.repair.specs.OneOwner.{ownersAt, OneOwner, LargestThere}
 use Rattle.repair.proofs.Kept
 use Rattle.repair_sides.specs.Sides.{trianglesOwned}
-use Rattle.sheet_form.specs.Numbers.{Sheet}
+use Rattle.sheet_form.specs.Numbers.{members}
 use Rattle.sheet.specs.Reading.{readingOf}
 use Rattle.sheet.specs.Held.{SheetHeld}
-use Rattle.judged.specs.Judged.{judged, judgedSheet}
+use Rattle.judged.specs.Judged.{Judged, judgeSheet, judgedSheet, repairOf}
+use Rattle.judged.proofs.Stages.{judged-value}
 use Rattle.judged.proofs.Repaired
-use Rattle.outcomes.specs.Entries.{repairOf, ownedSides}
+use Rattle.outcomes.specs.Entries.{ownedSides}
 use Rattle.demands.proofs.Stages.{read-limits}
 
--- Bytes come to a sheet n with an owner set for each triangle.
-module _ (s : List ℕ) (bytes : All (λ b. b < 256) s) (n : Sheet) (sets : List ℕ) (e : judgedSheet s ≡ judged n sets) where
-  -- (The sheet is within the limits.)
-  held : SheetHeld n (readingOf s .numbers)
-  held = read-limits s bytes n (Repaired.judged-owners s e .0)
+-- Bytes come to a judged sheet: a sheet with owners for each triangle.
+module _ (s : List ℕ) (bytes : All (λ b. b < 256) s) (j : Judged) (e : judgedSheet s ≡ value j) where
+  -- (It is judged so, and is within the limits.)
+  comes : judgeSheet (j .sheet) ≡ value j
+  comes = judged-value s j .0 e .1
 
-  -- "Repair can't be done exactly if no triangle has an owner."
-  pub unrepaired : (repairOf n sets ≡ none) ↔ ((t : ℕ) → t < length (n .table) → getD sets t 0 ≡ 0)
-  unrepaired = Repaired.unrepaired held (Repaired.judged-owners s e .1)
+  held : SheetHeld members (j .sheet) (readingOf members s .numbers)
+  held = read-limits s bytes (j .sheet) (judged-value s j .0 e .0)
+
+  -- "Repair can't be done exactly if no triangle has an owner": 30, item 0, and no other refusal.
+  pub unrepaired : (code item : ℕ) → (repairOf j ≡ refused code item) ↔ ((code ≡ 30) × (item ≡ 0) × ((t : ℕ) → t < length (j .owners) → ownersAt (j .owners) t ≡ []))
+  unrepaired = Repaired.unrepaired comes held
 
   -- "The sheet is clean if every triangle has exactly one" owner: then repair has an answer and changes nothing.
-  pub clean-kept : ((t : ℕ) → t < length (n .table) → length (ownersAt sets t) ≡ 1)
-      → (owners : List ℕ) × (repairOf n sets ≡ some owners) × ((t : ℕ) → t < length (n .table) → ownersAt sets t ≡ getD owners t 0 ∷ [])
+  pub clean-kept : ((t : ℕ) → t < length (j .sheet .table) → length (ownersAt (j .owners) t) ≡ 1)
+      → (owners : List ℕ) × (repairOf j ≡ value owners) × ((t : ℕ) → t < length (j .sheet .table) → ownersAt (j .owners) t ≡ getD owners t 0 ∷ [])
   clean-kept clean =
-      let each = Repaired.judged-rules held (Repaired.judged-owners s e .1) .3 in
-      let single : (t : ℕ) → t < length sets → length (ownersAt sets t) ≡ 1 = λ t h. clean t (omega arith) in
-      let (owners, r) = Kept.clean-repaired _ sets single (omega (arith, held .some)) in
-      (owners, r, λ t h. Kept.clean-kept _ sets single owners (Repaired.one-owner held (Repaired.judged-owners s e .1) owners r .0) t (omega arith))
+      let opposite = opposites (sidesOf (j .sheet .table)) in
+      let each = Repaired.owners-many comes in
+      let single : (t : ℕ) → t < length (j .owners) → length (ownersAt (j .owners) t) ≡ 1 = λ t h. clean t (omega arith) in
+      let r = Kept.clean-repaired opposite (j .owners) single (largest opposite) (Repaired.listed comes) (omega (arith, held .some)) in
+      (_, r, λ t h. Kept.clean-kept opposite (j .owners) single _ (Repaired.repaired-is comes held _ .0 r .0) t (omega arith))
 
-  -- ---- otherwise it gives an owner number to each triangle
-  module _ (owners : List ℕ) (r : repairOf n sets ≡ some owners) where
-    -- "Triangles with one owner keep it. An overlap goes to its smallest owner number .. Then take each gap region ..: all of it goes to the
-    -- largest number found across its sides once the overlaps are settled." Each triangle has exactly one owner, one of the sheet's polygons,
-    pub one-owner : OneOwner (opposites (sidesOf (n .table))) sets owners × All (λ k. (1 ≤ k) × (k ≤ length (n .polygons))) owners
-    one-owner = Repaired.one-owner held (Repaired.judged-owners s e .1) owners r
+  -- "Triangles with one owner keep it. An overlap goes to its smallest owner number .. Then take each gap region ..: all of it goes to the
+  -- largest number found across its sides once the overlaps are settled." These owner numbers are repair's answer, and no others are:
+  pub one-owner : (owners : List ℕ) → (repairOf j ≡ value owners) ↔ (OneOwner (opposites (sidesOf (j .sheet .table))) (j .owners) owners × LargestThere (opposites (sidesOf (j .sheet .table))) (j .owners) owners)
+  one-owner = Repaired.repaired-is comes held
 
-    -- no other owner numbers are such,
-    pub no-other : (others : List ℕ) → OneOwner (opposites (sidesOf (n .table))) sets others → others ≡ owners
-    no-other = Repaired.no-other held (Repaired.judged-owners s e .1) owners r
+  -- ---- for the owner numbers that repair answers
+  module _ (owners : List ℕ) (r : repairOf j ≡ value owners) where
+    -- each is that of one of the sheet's polygons,
+    pub polygons-own : All (λ k. (1 ≤ k) × (k ≤ length (j .sheet .polygons))) owners
+    polygons-own = Repaired.after-polygons comes held owners r
 
     -- and the double areas that the polygons own add up to the frame's.
-    pub areas-balance : sum (λ k. sum double (trianglesOwned (n .table) owners k)) (from 1 (length (n .polygons))) ≡ doubleArea ((frame (corners (n .table)) ∷ []) ∷ [])
-    areas-balance = Repaired.areas-balance held (Repaired.judged-owners s e .1) owners r
+    pub areas-balance : sum (λ k. sum double (trianglesOwned (j .sheet .table) owners k)) (from 1 (length (j .sheet .polygons))) ≡ doubleArea ((rectangle (frameOf (corners (j .sheet .table))) ∷ []) ∷ [])
+    areas-balance = Repaired.areas-balance comes held owners r
 
   -- ---- the sides that the boundary entry writes for a polygon, by the owner numbers
   module _ (owners : List ℕ) (polygon : ℕ) where
     -- "Each side uv of its triangles after repair whose vu is no side of those": exactly the ordered pairs at which their boundary is 1,
-    pub sides-are-boundary : (d : Edge) → Among sameEdge d (ownedSides n polygon owners) ↔ (boundary (sidesOf (trianglesOwned (n .table) owners polygon)) d ≡ pos 1)
-    sides-are-boundary = Repaired.sides-are-boundary held (Repaired.judged-owners s e .1) owners polygon
+    pub sides-are-boundary : (d : Edge) → Among sameEdge d (ownedSides (j .sheet) polygon owners) ↔ (boundary (sidesOf (trianglesOwned (j .sheet .table) owners polygon)) d ≡ pos 1)
+    sides-are-boundary = Repaired.sides-are-boundary comes owners polygon
 
     -- each of them once,
-    pub sides-once : (d : Edge) → count sameEdge d (ownedSides n polygon owners) ≤ 1
-    sides-once = Repaired.sides-once held (Repaired.judged-owners s e .1) owners polygon
+    pub sides-once : (d : Edge) → count sameEdge d (ownedSides (j .sheet) polygon owners) ≤ 1
+    sides-once = Repaired.sides-once comes owners polygon
 
     -- and nowhere is the boundary above 1.
-    pub at-most-one : (d : Edge) → boundary (sidesOf (trianglesOwned (n .table) owners polygon)) d ≤ℤ pos 1
-    at-most-one = Repaired.at-most-one held (Repaired.judged-owners s e .1) owners polygon
+    pub at-most-one : (d : Edge) → boundary (sidesOf (trianglesOwned (j .sheet .table) owners polygon)) d ≤ℤ pos 1
+    at-most-one = Repaired.at-most-one comes owners polygon

@@ -1,34 +1,96 @@
--- Which bytes have owner sets, and which are refused before that, exactly as document 01 says it. The idea: judging goes through reading, the table
--- rules and the polygons in this order, and each stage says when it refuses; owner sets are told by their bits. Assumes nothing.
-use mathlib.Core.Path.{_≡_, refl, sym, _∙_, ap, subst}
+-- Which bytes have owners, and which are refused before that, exactly as document 01 says it. The idea: judging goes through reading, the table
+-- rules and the polygons in this order, and each stage says when it refuses; owners are told by the sets of the polygons, and owner sets by their bits.
+-- Assumes nothing.
+use mathlib.Core.Path.{_≡_, refl, sym, _∙_, ap, ap₂, subst}
 use mathlib.Core.Logic.{_↔_, _⊎_, inl, inr}
 use mathlib.Core.Bool.{Bool, false}
-use mathlib.Core.List.{List}
-use Prim.Native.Nat.{ℕ, zero, suc, _-_, _^_, _/_, _<_}
+use mathlib.Core.List.{List, [], _∷_, map}
+use Prim.Native.Nat.{ℕ, zero, suc, _-_, _^_, _/_, _≤_, _<_}
 use native.Mathlib.Nat.{pow-suc}
 use native.Mathlib.Omega.{arith}
 use lib.ListN.{length, getD}
 use lib.Seq.{ext-getD}
 use Rattle.whole.specs.Sums.{All, bit}
 use Rattle.whole.proofs.Sums.{all-at}
-use Rattle.table.specs.Table.{passed, refused as unsound, checkTable}
+use Rattle.plane.specs.Points.{Triangle}
+use Rattle.plane.specs.Members.{Member}
+use Rattle.lent.specs.Stages.{Answer, value, refused, andThen}
+use Rattle.lent.specs.Answered.{Outcome}
+use Rattle.lent.proofs.Stages.{chain-value, chain-refused}
+use Rattle.table.specs.Table.{frameEdges, RuleA, RuleB, checkTable}
 use Rattle.table.proofs.Rules.{passes, refused-as}
-use Rattle.owners_marks.specs.Marks.{ownerSets}
+use Rattle.owners_marks.specs.Marks.{ownersFrom, setOf}
+use Rattle.owners_marks.specs.Sets.{ownerSets}
 use Rattle.owners_marks.proofs.Bits.{digit, digit-zero, digit-suc}
-use Rattle.owners_marks.proofs.Owning.{length-owner-sets, owner-sets-below}
-use Rattle.owners.specs.Owners.{Ownership, owned, notCarriedAt, judgeFrom, ofOwnership, ofChecked, ownersOf}
-use Rattle.owners.proofs.Polygons.{all-carried as each-carried, bits-are}
-use Rattle.sheet_form.specs.Numbers.{Sheet}
-use Rattle.sheet.specs.Read.{sheet, readSheet}
-use Rattle.lent.specs.Answered.{Outcome, refusal, bytes}
-use Rattle.judged.specs.Judged.{JudgedSheet, judged, refusal as refusedSheet, withSets, ofRead, judgedSheet}
-use Rattle.judged.proofs.Repaired.{marks-fit}
-use Rattle.outcomes.specs.Entries.{onJudged}
-use Rattle.demands.specs.Answers.{HasSets, Refused, unread, breaks-A, breaks-B, breaks-C, not-carried}
+use Rattle.owners_marks.proofs.Owning.{owner-sets-below, bit-stands}
+use Rattle.owners_marks.proofs.Owners.{sets-are, length-owner-sets}
+use Rattle.owners.specs.Judging.{AreaOfOwnership}
+use Rattle.owners.proofs.Carried.{answered, answers}
+use Rattle.owners.proofs.Polygons.{EachCarried, all-carried as each-carried, marks-fit, each-at}
+use Rattle.sheet_form.specs.Numbers.{Sheet, members}
+use Rattle.sheet.specs.Read.{readSheet}
+use Rattle.judged.specs.Judged.{Judged, judgedSheet}
+use Rattle.judged.proofs.Repaired.{owners-many}
+use Rattle.judged.proofs.Stages.{polygons-value, sheet-value, sheet-refused, judged-value, judged-refused}
+use Rattle.demands.specs.Polygons.{polygon}
+use Rattle.demands.specs.Answers.{HasOwners, HasSets, Refused, unread, breaks-A, breaks-B, breaks-C, not-carried}
 use Rattle.demands.proofs.Table.{refused-A, refused-B, refused-C}
-use Rattle.demands.proofs.Stages.{refused-by}
-use Rattle.demands.proofs.Order.{is-first, comes-to}
+use Rattle.demands.proofs.Order.{is-first}
 use Rattle.demands.proofs.Carried.{first-not-carried, all-carried}
+
+-- A sheet with the owners of its triangles.
+abbrev pub with-owners : Sheet → List (List ℕ) → Judged
+with-owners n owners = record { sheet = n; owners = owners }
+
+-- ---- owners
+-- Sets that are the polygons' areas of ownership carry them.
+each-of : (table : List Triangle) → RuleA table → RuleB table → (ms : List Member) (l : List (List Bool)) → length l ≡ length ms
+    → ((k : ℕ) → 1 ≤ k → k ≤ length ms → AreaOfOwnership table (polygon ms k) (getD l (k - 1) [])) → EachCarried table ms l
+each-of table area once [] [] e h = tt
+each-of table area once [] (s ∷ l) e h = absurd (omega arith)
+each-of table area once (m ∷ ms) [] e h = absurd (omega arith)
+each-of table area once (m ∷ ms) (s ∷ l) e h = (answers table m area once s (h 1 (omega arith) (omega arith) .of-table) (h 1 (omega arith) (omega arith) .carries), each-of table area once ms l (omega arith) behind)
+  where
+    behind : (k : ℕ) → 1 ≤ k → k ≤ length ms → AreaOfOwnership table (polygon ms k) (getD l (k - 1) [])
+    behind zero low high = absurd (omega arith)
+    behind (suc k) low high =
+        let e : suc (suc k) - 1 ≡ suc (suc k - 1) = omega arith in
+        subst (λ i. AreaOfOwnership table (getD (m ∷ ms) i []) (getD (s ∷ l) i [])) e (h (suc (suc k)) (omega arith) (omega arith))
+
+module _ (s : List ℕ) where
+  -- Bytes come to a judged sheet exactly if they have its owners.
+  pub has-owners : (n : Sheet) (owners : List (List ℕ)) → (judgedSheet s ≡ value (with-owners n owners)) ↔ HasOwners s n owners
+  has-owners n owners = (to, from)
+    where
+      to : judgedSheet s ≡ value (with-owners n owners) → HasOwners s n owners
+      to e =
+          let (p, q) = judged-value s (with-owners n owners) .0 e in
+          let (i, c, o) = sheet-value n (with-owners n owners) .0 q in
+          let (l, f, g) = polygons-value (n .table) (n .polygons) owners .0 o in
+          let r = passes (frameEdges (n .table)) (n .table) .0 c in
+          let each = each-carried (n .table) (n .polygons) l .0 f in
+          record {
+            read = p;
+            passes = r;
+            sets = l;
+            as-many = marks-fit (n .table) (r .0) (r .1) (n .polygons) l each .0;
+            of-polygon = λ k low high. answered (n .table) (polygon (n .polygons) k) (r .0) (r .1) (getD l (k - 1) []) (each-at (n .table) (r .0) (r .1) (n .polygons) l each (k - 1) (omega arith));
+            owners-are = sym g;
+          }
+
+      from : HasOwners s n owners → judgedSheet s ≡ value (with-owners n owners)
+      from h =
+          let r = h .passes in
+          let each = each-of (n .table) (r .0) (r .1) (n .polygons) (h .sets) (h .as-many) (h .of-polygon) in
+          judged-value s (with-owners n owners) .1 (
+            h .read,
+            sheet-value n (with-owners n owners) .1
+                (refl, passes (frameEdges (n .table)) (n .table) .1 r, polygons-value (n .table) (n .polygons) owners .1 (h .sets, each-carried (n .table) (n .polygons) (h .sets) .1 each, sym (h .owners-are))),
+          )
+
+-- There are owners for each triangle.
+pub owners-each : {s : List ℕ} {n : Sheet} {owners : List (List ℕ)} → HasOwners s n owners → length owners ≡ length (n .table)
+owners-each {s} {n} {owners} h = owners-many (judged-value s (with-owners n owners) .0 (has-owners s n owners .1 h) .1)
 
 -- ---- owner sets
 -- Numbers of so many bits are told by their bits.
@@ -53,88 +115,76 @@ module _ {s : List ℕ} {n : Sheet} where
           subst (λ j. digit (getD a t 0) j ≡ digit (getD b t 0) j) (let j : suc k - 1 ≡ k = omega arith in j)
           (x t (omega (arith, o .of-table, p .each)) ∙ ap (λ l. bit (getD l t false)) (sym m) ∙ sym (y t (omega (arith, u .of-table, p .each))))
 
--- The owner sets of a sheet that is read, whose table passes and whose polygons have these sets.
-made-sets : (s : List ℕ) (n : Sheet) → readSheet s ≡ sheet n → checkTable (n .table) ≡ passed → (l : List (List Bool)) → judgeFrom (n .table) 1 (n .polygons) ≡ owned l
-    → HasSets s n (ownerSets (length (n .table)) l)
-made-sets s n p e l q =
-    let r = passes (n .table) .0 e in
-    let f = marks-fit (n .table) (r .0) (r .1) (n .polygons) l (each-carried (n .table) (n .polygons) l q) in
-    record {
-      read = p;
-      passes = r;
-      each = length-owner-sets (length (n .table)) l (f .1);
-      bits = λ k low high. let b = bits-are (n .table) (r .0) (r .1) (n .polygons) l q (k - 1) (omega arith) in (b .marks, b .of-polygon, λ t h. b .bits t (omega (arith, b .of-polygon .of-table)));
-      no-others = subst (λ m. All (λ set. set < 2 ^ m) (ownerSets (length (n .table)) l)) (f .0) (owner-sets-below (length (n .table)) l);
-    }
+  -- The owners as sets.
+  sets-of : (owners : List (List ℕ)) → HasOwners s n owners → HasSets s n (map setOf owners)
+  sets-of owners h =
+      let r = h .passes in
+      let fit = marks-fit (n .table) (r .0) (r .1) (n .polygons) (h .sets) (each-of (n .table) (r .0) (r .1) (n .polygons) (h .sets) (h .as-many) (h .of-polygon)) .1 in
+      subst (HasSets s n) (sets-are (length (n .table)) (h .sets) ∙ ap (map setOf) (sym (h .owners-are))) (record {
+        read = h .read;
+        passes = r;
+        each = length-owner-sets (length (n .table)) (h .sets) fit;
+        bits = λ k low high. (getD (h .sets) (k - 1) [], h .of-polygon k low high, λ t l. bit-stands (length (n .table)) (h .sets) fit (k - 1) t (omega (arith, h .of-polygon k low high .of-table)));
+        no-others = subst (λ m. All (λ set. set < 2 ^ m) (ownerSets (length (n .table)) (h .sets))) (h .as-many) (owner-sets-below (length (n .table)) (h .sets));
+      })
 
-module _ (s : List ℕ) where
-  -- Bytes come to a judged sheet exactly if they have owner sets.
-  pub has-sets : (n : Sheet) (sets : List ℕ) → (judgedSheet s ≡ judged n sets) ↔ HasSets s n sets
-  has-sets n sets = (to sets, from)
+  -- Owner sets are those of the owners.
+  pub has-sets : (sets : List ℕ) → ((owners : List (List ℕ)) × HasOwners s n owners × (sets ≡ map setOf owners)) ↔ HasSets s n sets
+  has-sets sets = (λ (owners, h, e). subst (HasSets s n) (sym e) (sets-of owners h), from)
     where
-      to : (sets : List ℕ) → judgedSheet s ≡ judged n sets → HasSets s n sets
-      to sets e = let (p, sound, each) = all-carried s n .0 (sets, e) in go p sound (judgeFrom (n .table) 1 (n .polygons)) refl (sym e ∙ comes-to s n p sound)
-        where
-          go : readSheet s ≡ sheet n → checkTable (n .table) ≡ passed → (o : Ownership) → judgeFrom (n .table) 1 (n .polygons) ≡ o
-              → judged n sets ≡ withSets n (ofOwnership (length (n .table)) o) → HasSets s n sets
-          go p sound (owned l) q i = let k : ownerSets (length (n .table)) l ≡ sets = cc i in subst (HasSets s n) k (made-sets s n p sound l q)
-          go p sound (notCarriedAt k) q i = absurd (let z : _≡_ {A = ℕ} 0 1 = cc i in omega arith)
-
-      from : HasSets s n sets → judgedSheet s ≡ judged n sets
+      from : HasSets s n sets → (owners : List (List ℕ)) × HasOwners s n owners × (sets ≡ map setOf owners)
       from h =
-          let (others, e) = all-carried s n .1 (h .read, passes (n .table) .1 (h .passes), λ k low high. let (marks, o, b) = h .bits k low high in (marks, o .of-table, o .carries)) in
-          e ∙ ap (judged n) (one-list (to others e) h)
+          let (owners, e) = all-carried s n .1 (h .read, passes (frameEdges (n .table)) (n .table) .1 (h .passes), λ k low high. let (marks, o, b) = h .bits k low high in (marks, o .of-table, o .carries)) in
+          let o = has-owners s n owners .0 e in
+          (owners, o, one-list h (sets-of owners o))
 
-  -- A sheet that is read is refused where its table is.
-  table-refused : (n : Sheet) (code item : ℕ) → readSheet s ≡ sheet n → checkTable (n .table) ≡ unsound code item → judgedSheet s ≡ refusedSheet code item
-  unfolding judgedSheet ownersOf
-  table-refused n code item p e = ap ofRead p ∙ ap (λ c. withSets n (ofChecked c (ofOwnership (length (n .table)) (judgeFrom (n .table) 1 (n .polygons))))) e
-
+-- ---- refusals
+module _ (s : List ℕ) where
   -- And they come to a refusal exactly if they are refused.
-  pub is-refused : (code item : ℕ) → (judgedSheet s ≡ refusedSheet code item) ↔ Refused s code item
-  unfolding judgedSheet
+  pub is-refused : (code item : ℕ) → (judgedSheet s ≡ refused code item) ↔ Refused s code item
   is-refused code item = (to, from)
     where
-      by-table : (n : Sheet) → readSheet s ≡ sheet n → checkTable (n .table) ≡ unsound code item → Refused s code item
-      by-table n p e = elim (refused-as (n .table) code item e) [
-        | inl a ↦ subst (λ c. Refused s c item) (sym (a .0)) (breaks-A n p (refused-A (n .table) item .0 (e ∙ ap (λ c. unsound c item) (a .0))))
-        | inr (inl b) ↦ let (r, f) = refused-B (n .table) item .0 (e ∙ ap (λ c. unsound c item) (b .0)) in subst (λ c. Refused s c item) (sym (b .0)) (breaks-B n p r f)
+      by-table : (n : Sheet) → readSheet members s ≡ value n → checkTable (frameEdges (n .table)) (n .table) ≡ refused code item → Refused s code item
+      by-table n p e = elim (refused-as (frameEdges (n .table)) (n .table) code item .0 e) [
+        | inl a ↦ subst (λ c. Refused s c item) (sym (a .0)) (breaks-A n p (refused-A (n .table) item .0 (e ∙ ap (λ c. refused c item) (a .0))))
+        | inr (inl b) ↦ let (r, f) = refused-B (n .table) item .0 (e ∙ ap (λ c. refused c item) (b .0)) in subst (λ c. Refused s c item) (sym (b .0)) (breaks-B n p r f)
         | inr (inr c) ↦ subst (λ d. Refused s d item) (sym (c .0)) (subst (Refused s 12) (sym (c .1)) (breaks-C n p (c .2) (c .3) (c .4)))
       ]
 
-      to : judgedSheet s ≡ refusedSheet code item → Refused s code item
-      to e = elim (refused-by s code item e) [
+      to : judgedSheet s ≡ refused code item → Refused s code item
+      to e = elim (judged-refused s code item .0 e) [
         | inl r ↦ unread r
-        | inr (n, p, inl r) ↦ by-table n p r
-        | inr (n, p, inr r) ↦ subst (λ c. Refused s c item) (sym (r .1)) (not-carried n p (passes (n .table) .0 (r .0)) (is-first (n .table) (r .0) (n .polygons) item (r .2)))
+        | inr (n, p, q) ↦ elim (sheet-refused n code item .0 q) [
+          | inl r ↦ by-table n p r
+          | inr (r, f) ↦ let (c, first) = is-first (n .table) r (n .polygons) code item f in subst (λ c. Refused s c item) (sym c) (not-carried n p (passes (frameEdges (n .table)) (n .table) .0 r) first)
+        ]
       ]
 
-      from : {code item : ℕ} → Refused s code item → judgedSheet s ≡ refusedSheet code item
-      from (unread e) = ap ofRead e
+      table-refused : (n : Sheet) (code item : ℕ) → readSheet members s ≡ value n → checkTable (frameEdges (n .table)) (n .table) ≡ refused code item → judgedSheet s ≡ refused code item
+      table-refused n code item p e = judged-refused s code item .1 (inr (n, p, sheet-refused n code item .1 (inl e)))
+
+      from : {code item : ℕ} → Refused s code item → judgedSheet s ≡ refused code item
+      from (unread {code} {item} e) = judged-refused s code item .1 (inl e)
       from (breaks-A {k} n p f) = table-refused n 10 k p (refused-A (n .table) k .1 f)
       from (breaks-B {k} n p a f) = table-refused n 11 k p (refused-B (n .table) k .1 (a, f))
       from (breaks-C n p a b c) = table-refused n 12 0 p (refused-C (n .table) 0 .1 (refl, a, b, c))
-      from (not-carried {k} n p r f) = first-not-carried s k .1 (n, p, passes (n .table) .1 r, f)
+      from (not-carried {k} n p r f) = first-not-carried s k .1 (n, p, passes (frameEdges (n .table)) (n .table) .1 r, f)
 
   -- ---- what an entry goes on to
-  module _ (next : Sheet → List ℕ → Outcome) where
-    pub answers-on : (item : ℕ) (l : List ℕ) → (onJudged next (judgedSheet s) ≡ bytes item l) ↔ ((n : Sheet) × (sets : List ℕ) × HasSets s n sets × (next n sets ≡ bytes item l))
-    answers-on item l = (go (judgedSheet s) refl, λ (n, sets, h, e). ap (onJudged next) (has-sets n sets .1 h) ∙ e)
-      where
-        go : (j : JudgedSheet) → judgedSheet s ≡ j → onJudged next j ≡ bytes item l → (n : Sheet) × (sets : List ℕ) × HasSets s n sets × (next n sets ≡ bytes item l)
-        go (judged n sets) q e = (n, sets, has-sets n sets .0 q, e)
-        go (refusedSheet code k) q e = absurd (let z : _≡_ {A = ℕ} 0 1 = cc e in omega arith)
+  module _ {A : Type 0} (next : Judged → Answer A) where
+    pub answers-on : (a : A) → (andThen (judgedSheet s) next ≡ value a) ↔ ((n : Sheet) × (owners : List (List ℕ)) × HasOwners s n owners × (next (with-owners n owners) ≡ value a))
+    answers-on a = (
+      λ e. let (j, p, q) = chain-value (judgedSheet s) next a .0 e in (j .sheet, j .owners, has-owners s (j .sheet) (j .owners) .0 p, q),
+      λ (n, owners, h, q). chain-value (judgedSheet s) next a .1 (with-owners n owners, has-owners s n owners .1 h, q),
+    )
 
-    pub refuses-on : (code item : ℕ) → (onJudged next (judgedSheet s) ≡ refusal code item) ↔ (Refused s code item ⊎ ((n : Sheet) × (sets : List ℕ) × HasSets s n sets × (next n sets ≡ refusal code item)))
-    refuses-on code item = (go (judgedSheet s) refl, from)
+    pub refuses-on : (code item : ℕ) → (andThen (judgedSheet s) next ≡ refused code item)
+        ↔ (Refused s code item ⊎ ((n : Sheet) × (owners : List (List ℕ)) × HasOwners s n owners × (next (with-owners n owners) ≡ refused code item)))
+    refuses-on code item = (to, from)
       where
-        go : (j : JudgedSheet) → judgedSheet s ≡ j → onJudged next j ≡ refusal code item → Refused s code item ⊎ ((n : Sheet) × (sets : List ℕ) × HasSets s n sets × (next n sets ≡ refusal code item))
-        go (judged n sets) q e = inr (n, sets, has-sets n sets .0 q, e)
-        go (refusedSheet number k) q e =
-            let c : number ≡ code = cc e in
-            let i : k ≡ item = cc e in
-            inl (is-refused code item .0 (q ∙ ap (λ c. refusedSheet c k) c ∙ ap (refusedSheet code) i))
+        to : andThen (judgedSheet s) next ≡ refused code item → Refused s code item ⊎ ((n : Sheet) × (owners : List (List ℕ)) × HasOwners s n owners × (next (with-owners n owners) ≡ refused code item))
+        to e = elim (chain-refused (judgedSheet s) next code item .0 e) [ inl p ↦ inl (is-refused code item .0 p) | inr (j, p, q) ↦ inr (j .sheet, j .owners, has-owners s (j .sheet) (j .owners) .0 p, q) ]
 
-        from : Refused s code item ⊎ ((n : Sheet) × (sets : List ℕ) × HasSets s n sets × (next n sets ≡ refusal code item)) → onJudged next (judgedSheet s) ≡ refusal code item
-        from (inl r) = ap (onJudged next) (is-refused code item .1 r)
-        from (inr (n, sets, h, e)) = ap (onJudged next) (has-sets n sets .1 h) ∙ e
+        from : Refused s code item ⊎ ((n : Sheet) × (owners : List (List ℕ)) × HasOwners s n owners × (next (with-owners n owners) ≡ refused code item)) → andThen (judgedSheet s) next ≡ refused code item
+        from (inl r) = chain-refused (judgedSheet s) next code item .1 (inl (is-refused code item .1 r))
+        from (inr (n, owners, h, q)) = chain-refused (judgedSheet s) next code item .1 (inr (with-owners n owners, has-owners s n owners .1 h, q))

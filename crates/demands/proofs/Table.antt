@@ -2,7 +2,7 @@
 -- check goes over the triangles with those before each at hand, so the fault it finds is at a triangle and at none before it. Assumes nothing.
 use mathlib.Core.Path.{_≡_, refl, sym, _∙_, ap, subst}
 use mathlib.Core.Logic.{_↔_, _⊎_, inl, inr}
-use mathlib.Core.Bool.{Bool, true, false, not, cond}
+use mathlib.Core.Bool.{Bool, true, false, not}
 use mathlib.Core.List.{List, [], _∷_, flatMap}
 use mathlib.Core.Option.{Option, some}
 use Prim.Native.Nat.{ℕ, zero, suc, _+_, _-_, _≤_, _<_}
@@ -15,13 +15,11 @@ use lib.Signed.{ltZ, _<ℤ_, ltZ-yes}
 use Rattle.whole.specs.Sums.{All, Among, any, bit, count}
 use Rattle.whole.proofs.Sums.{count-++, counted, none-any}
 use Rattle.plane.specs.Points.{Edge, Triangle, sides, sameEdge, double}
-use Rattle.plane.specs.Cuts.{allPieces}
-use Rattle.plane.specs.Boundaries.{agree, sidesOf}
-use Rattle.plane.specs.Members.{edges}
+use Rattle.plane.specs.Boundaries.{sidesOf}
 use Rattle.plane.proofs.Points.{sameEdge-eq, sameEdge-refl}
-use Rattle.plane.proofs.Boundaries.{agree-is}
-use Rattle.table.specs.Table.{corners, frame, RuleA, RuleB, RuleC, passed, refused, firstFault, flat, repeats, checkTable}
-use Rattle.table.proofs.Rules.{FirstFault, no-fault, rule-A, rule-B, refused-as}
+use Rattle.lent.specs.Stages.{refused}
+use Rattle.table.specs.Table.{frameEdges, RuleA, RuleB, RuleC, firstFault, flat, repeats, checkTable}
+use Rattle.table.proofs.Rules.{FirstFault, first-fault, refused-as}
 use Rattle.demands.specs.Triangles.{triangle, NoArea, RepeatsSide, First}
 
 -- ---- the first member of a list that fails a test
@@ -195,42 +193,30 @@ repeats-side table i h = (to, from)
 -- ---- the three refusals
 module _ (table : List Triangle) where
   -- "10: rule A, first such triangle."
-  pub refused-A : (k : ℕ) → (checkTable table ≡ refused 10 k) ↔ First NoArea table k
-  unfolding checkTable
-  refused-A k = (to, λ f. rw (first-is flat NoArea table (no-area table) k f) refl)
-    where
-      to : checkTable table ≡ refused 10 k → First NoArea table k
-      to e = elim (refused-as table 10 k e) [
-        | inl a ↦ first-of flat NoArea table (no-area table) k (a .1)
-        | inr (inl b) ↦ absurd (omega (arith, b .0))
-        | inr (inr c) ↦ absurd (omega (arith, c .0))
-      ]
+  pub refused-A : (k : ℕ) → (checkTable (frameEdges table) table ≡ refused 10 k) ↔ First NoArea table k
+  refused-A k = (
+    λ e. elim (refused-as (frameEdges table) table 10 k .0 e) [
+      | inl a ↦ first-of flat NoArea table (no-area table) k (a .1)
+      | inr (inl b) ↦ absurd (omega (arith, b .0))
+      | inr (inr c) ↦ absurd (omega (arith, c .0))
+    ],
+    λ f. refused-as (frameEdges table) table 10 k .1 (inl (refl, first-fault flat [] table k .0 (first-is flat NoArea table (no-area table) k f))),
+  )
 
   -- "11: rule B, first triangle with a side of an earlier one."
-  pub refused-B : (k : ℕ) → (checkTable table ≡ refused 11 k) ↔ (RuleA table × First RepeatsSide table k)
-  unfolding checkTable
-  refused-B k = (to, λ h. rw (no-fault flat [] table .1 (rule-A [] table .1 (h .0)), first-is repeats RepeatsSide table (repeats-side table) k (h .1)) refl)
-    where
-      to : checkTable table ≡ refused 11 k → RuleA table × First RepeatsSide table k
-      to e = elim (refused-as table 11 k e) [
-        | inl a ↦ absurd (omega (arith, a .0))
-        | inr (inl b) ↦ (b .1, first-of repeats RepeatsSide table (repeats-side table) k (b .2))
-        | inr (inr c) ↦ absurd (omega (arith, c .0))
-      ]
+  pub refused-B : (k : ℕ) → (checkTable (frameEdges table) table ≡ refused 11 k) ↔ (RuleA table × First RepeatsSide table k)
+  refused-B k = (
+    λ e. elim (refused-as (frameEdges table) table 11 k .0 e) [
+      | inl a ↦ absurd (omega (arith, a .0))
+      | inr (inl b) ↦ (b .1, first-of repeats RepeatsSide table (repeats-side table) k (b .2))
+      | inr (inr c) ↦ absurd (omega (arith, c .0))
+    ],
+    λ (a, f). refused-as (frameEdges table) table 11 k .1 (inr (inl (refl, a, first-fault repeats [] table k .0 (first-is repeats RepeatsSide table (repeats-side table) k f)))),
+  )
 
   -- "12: rule C, 0."
-  pub refused-C : (k : ℕ) → (checkTable table ≡ refused 12 k) ↔ ((k ≡ 0) × RuleA table × RuleB table × (RuleC table → ⊥))
-  unfolding checkTable
-  refused-C k = (to, from)
-    where
-      to : checkTable table ≡ refused 12 k → (k ≡ 0) × RuleA table × RuleB table × (RuleC table → ⊥)
-      to e = elim (refused-as table 12 k e) [ inl a ↦ absurd (omega (arith, a .0)) | inr (inl b) ↦ absurd (omega (arith, b .0)) | inr (inr c) ↦ (c .1, c .2, c .3, c .4) ]
-
-      from : (k ≡ 0) × RuleA table × RuleB table × (RuleC table → ⊥) → checkTable table ≡ refused 12 k
-      from (z, a, b, n) =
-          rw (no-fault flat [] table .1 (rule-A [] table .1 a), no-fault repeats [] table .1 (rule-B table a .1 b))
-          (go (agree (sidesOf table) (allPieces (corners table) (edges (frame (corners table))))) (λ t. n (agree-is _ _ .0 t)) ∙ ap (refused 12) (sym z))
-        where
-          go : (c : Bool) → (T c → ⊥) → cond c passed (refused 12 0) ≡ refused 12 0
-          go true f = absurd (f tt)
-          go false f = refl
+  pub refused-C : (k : ℕ) → (checkTable (frameEdges table) table ≡ refused 12 k) ↔ ((k ≡ 0) × RuleA table × RuleB table × (RuleC (frameEdges table) table → ⊥))
+  refused-C k = (
+    λ e. elim (refused-as (frameEdges table) table 12 k .0 e) [ inl a ↦ absurd (omega (arith, a .0)) | inr (inl b) ↦ absurd (omega (arith, b .0)) | inr (inr c) ↦ (c .1, c .2, c .3, c .4) ],
+    λ (z, a, b, n). refused-as (frameEdges table) table 12 k .1 (inr (inr (refl, z, a, b, n))),
+  )

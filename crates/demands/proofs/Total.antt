@@ -12,7 +12,8 @@ use lib.Dec.{leb}
 use lib.ListN.{length, take, drop, length-append, length-drop}
 use lib.Seq.{take-at, drop-append-seam}
 use Rattle.whole.specs.Sums.{All}
-use Rattle.lent.specs.Answered.{Outcome, refusal, bytes, Answered}
+use Rattle.lent.specs.Stages.{value, refused}
+use Rattle.lent.specs.Answered.{Outcome, bytes, Answered}
 use Rattle.demands.specs.Refusals.{Listed}
 use Rattle.demands.specs.Entries.{Entry, outcomeOf}
 use Rattle.demands.proofs.Listed.{code-fits, outcome-listed, short-listed}
@@ -24,21 +25,21 @@ one-answer o before r r' after after' p q = (p .answer ∙ sym (q .answer), p .l
 
 -- A refused call, which has another code than 0, changes no lent byte.
 pub refused-unchanged : (o : Outcome) (before : List ℕ) (r : ℕ) (after : List ℕ) → Answered o before r after → (r % 256 ≡ 0 → ⊥) → after ≡ before
-refused-unchanged (refusal code item) before r after p h = p .left
-refused-unchanged (bytes item l) before r after p h = go (leb (length l) (length before)) (p .answer) (p .left)
+refused-unchanged (refused code item) before r after p h = p .left
+refused-unchanged (value w) before r after p h = go (leb (length (w .text)) (length before)) (p .answer) (p .left)
   where
-    go : (b : Bool) → r ≡ cond b (item * 256) 40 → after ≡ cond b (l ++ drop (length l) before) before → after ≡ before
+    go : (b : Bool) → r ≡ cond b (w .item * 256) 40 → after ≡ cond b (w .text ++ drop (length (w .text)) before) before → after ≡ before
     go true e q = absurd (h (omega arith))
     go false e q = q
 
 -- The lent bytes keep their number.
 pub same-length : (o : Outcome) (before : List ℕ) (r : ℕ) (after : List ℕ) → Answered o before r after → length after ≡ length before
-same-length (refusal code item) before r after p = ap length (p .left)
-same-length (bytes item l) before r after p = go (leb (length l) (length before)) refl (p .left)
+same-length (refused code item) before r after p = ap length (p .left)
+same-length (value w) before r after p = go (w .text) (leb (length (w .text)) (length before)) refl (p .left)
   where
-    go : (b : Bool) → leb (length l) (length before) ≡ b → after ≡ cond b (l ++ drop (length l) before) before → length after ≡ length before
-    go true e q = omega (arith, ap length q, length-append l (drop (length l) before), length-drop (length l) before, leb-true (length l) (length before) e)
-    go false e q = ap length q
+    go : (l : List ℕ) (b : Bool) → leb (length l) (length before) ≡ b → after ≡ cond b (l ++ drop (length l) before) before → length after ≡ length before
+    go l true e q = omega (arith, ap length q, length-append l (drop (length l) before), length-drop (length l) before, leb-true (length l) (length before) e)
+    go l false e q = ap length q
 
 -- On success the item is given, the bytes stand at the front, and those past them keep their values.
 pub in-front : (item : ℕ) (l before : List ℕ) (r : ℕ) (after : List ℕ) → Answered (bytes item l) before r after → r % 256 ≡ 0
@@ -56,11 +57,11 @@ in-front item l before r after p h = go (leb (length l) (length before)) (p .ans
 
 -- ---- each entry, for every sequence of bytes
 -- Each refusal has a number and an item of document 01's table.
-pub refusals-listed : (e : Entry) (s : List ℕ) → All (λ b. b < 256) s → (code item : ℕ) → outcomeOf e s ≡ refusal code item → Listed code item
+pub refusals-listed : (e : Entry) (s : List ℕ) → All (λ b. b < 256) s → (code item : ℕ) → outcomeOf e s ≡ refused code item → Listed code item
 refusals-listed e s all = outcome-listed s all e
 
 -- The answer tells both.
-pub number-and-item : (e : Entry) (s : List ℕ) → All (λ b. b < 256) s → (code item : ℕ) → outcomeOf e s ≡ refusal code item
+pub number-and-item : (e : Entry) (s : List ℕ) → All (λ b. b < 256) s → (code item : ℕ) → outcomeOf e s ≡ refused code item
     → (before : List ℕ) (r : ℕ) (after : List ℕ) → Answered (outcomeOf e s) before r after → (r % 256 ≡ code) × (r / 256 ≡ item)
 number-and-item e s all code item q before r after p =
     let w = code-fits code item (refusals-listed e s all code item q) in
@@ -73,8 +74,8 @@ pub succeeds : (e : Entry) (s : List ℕ) → All (λ b. b < 256) s → (before 
 succeeds e s all before r after p h = go (outcomeOf e s) refl p
   where
     go : (o : Outcome) → outcomeOf e s ≡ o → Answered o before r after → (l : List ℕ) × (o ≡ bytes (r / 256) l) × (take (length l) after ≡ l) × (drop (length l) after ≡ drop (length l) before)
-    go (refusal code item) q a = absurd (omega (arith, code-fits code item (refusals-listed e s all code item q) .0, number-and-item e s all code item q before r after p .0))
-    go (bytes item l) q a = let w = in-front item l before r after a h in (l, ap (λ i. bytes i l) (sym (w .0)), w .1, w .2)
+    go (refused code item) q a = absurd (omega (arith, code-fits code item (refusals-listed e s all code item q) .0, number-and-item e s all code item q before r after p .0))
+    go (value w) q a = let x = in-front (w .item) (w .text) before r after a h in (w .text, ap (λ i. bytes i (w .text)) (sym (x .0)), x .1, x .2)
 
 -- An answer has code 0, or a code and an item of the table.
 pub listed : (e : Entry) (s : List ℕ) → All (λ b. b < 256) s → (before : List ℕ) (r : ℕ) (after : List ℕ) → Answered (outcomeOf e s) before r after
@@ -86,7 +87,7 @@ listed e s all before r after p = go (outcomeOf e s) refl p
     short item l false e = inr (subst (λ r. Listed (r % 256) (r / 256)) (sym e) short-listed)
 
     go : (o : Outcome) → outcomeOf e s ≡ o → Answered o before r after → (r % 256 ≡ 0) ⊎ Listed (r % 256) (r / 256)
-    go (refusal code item) q a =
+    go (refused code item) q a =
         let w = number-and-item e s all code item q before r after p in
         inr (subst (λ c. Listed c (r / 256)) (sym (w .0)) (subst (Listed code) (sym (w .1)) (refusals-listed e s all code item q)))
-    go (bytes item l) q a = short item l (leb (length l) (length before)) (a .answer)
+    go (value w) q a = short (w .item) (w .text) (leb (length (w .text)) (length before)) (a .answer)

@@ -3,49 +3,51 @@
 use mathlib.Core.Path.{_≡_, refl, sym, _∙_, ap}
 use mathlib.Core.List.{List}
 use Prim.Native.Nat.{ℕ, _<_}
+use native.Mathlib.Omega.{arith}
 use lib.Dec.{T}
 use lib.ListN.{length}
 use Rattle.whole.specs.Sums.{All}
 use Rattle.wkb.specs.Standard.{Geometry, encode}
-use Rattle.sheet_form.specs.Numbers.{Sheet, numbersOf}
+use Rattle.lent.specs.Stages.{value}
+use Rattle.sheet_form.specs.Numbers.{Sheet, numbersOf, members}
 use Rattle.sheet.specs.Reading.{readingOf}
 use Rattle.sheet_standard.specs.Limits.{SheetFits, sheetOf}
 use Rattle.sheet_written.specs.Fits.{sheetFits}
-use Rattle.sheet.specs.Read.{sheet, readSheet}
+use Rattle.sheet.specs.Read.{readSheet}
 use Rattle.sheet_written.specs.Normal.{written}
 use Rattle.sheet_written.proofs.Given.{form-bytes}
 use Rattle.sheet_written.proofs.Held.{read-sheet-is}
 use Rattle.sheet_written.proofs.Trip.{written-bytes}
 use Rattle.sheet_written.proofs.Trip
 use Rattle.lent.specs.Answered.{bytes}
-use Rattle.demands.specs.Answers.{formOf}
+use Rattle.outcomes.specs.Entries.{formOf}
 use Rattle.demands.specs.Entries.{numbers, write, outcomeOf}
 use Rattle.demands.proofs.Answers.{numbers-answers, write-answers}
 
 -- What is written is one of the standard's encodings of the sheet, within the limits.
-pub written-standard : (n : Sheet) → T (sheetFits n) → (g : Geometry) × SheetFits g × (encode g ≡ written n) × (sheetOf g ≡ n)
-written-standard = Trip.written-standard
+pub written-standard : (n : Sheet) → T (sheetFits members n) → (g : Geometry) × SheetFits members g × (encode g ≡ written n) × (sheetOf g ≡ n)
+written-standard = Trip.written-standard members
 
 -- Reading the written bytes of any sheet within the limits answers the sheet.
-pub round-trip : (n : Sheet) → T (sheetFits n) → readSheet (written n) ≡ sheet n
-round-trip n h = read-sheet-is (written n) n .1 (Trip.round-trip n h)
+pub round-trip : (n : Sheet) → T (sheetFits members n) → readSheet members (written n) ≡ value n
+round-trip n h = read-sheet-is members (written n) n .1 (Trip.round-trip members (omega arith) n h)
 
 -- Whatever is read from bytes is within the limits, so that it can be written.
-pub read-fits : (s : List ℕ) → All (λ b. b < 256) s → (n : Sheet) → readSheet s ≡ sheet n → T (sheetFits n)
-read-fits s all n e = Trip.read-written s all n (read-sheet-is s n .0 e)
+pub read-fits : (s : List ℕ) → All (λ b. b < 256) s → (n : Sheet) → readSheet members s ≡ value n → T (sheetFits members n)
+read-fits s all n e = Trip.read-written members (omega arith) s all n (read-sheet-is members s n .0 e)
 
 -- Bytes that read as the same numbers are written as the same bytes.
-pub equal-bytes : (s t : List ℕ) (m n : Sheet) → readSheet s ≡ sheet m → readSheet t ≡ sheet n → readingOf s .numbers ≡ readingOf t .numbers → written m ≡ written n
-equal-bytes s t m n p q = Trip.equal-bytes s t m n (read-sheet-is s m .0 p) (read-sheet-is t n .0 q)
+pub equal-bytes : (s t : List ℕ) (m n : Sheet) → readSheet members s ≡ value m → readSheet members t ≡ value n → readingOf members s .numbers ≡ readingOf members t .numbers → written m ≡ written n
+equal-bytes s t m n p q = Trip.equal-bytes members s t m n (read-sheet-is members s m .0 p) (read-sheet-is members t n .0 q)
 
 -- ---- the entries
 -- "The writer takes this form": given the numbers form of any sheet within the limits, the writer answers the sheet's normal bytes.
-pub write-form : (n : Sheet) → T (sheetFits n) → outcomeOf write (formOf n) ≡ bytes (length (written n)) (written n)
+pub write-form : (n : Sheet) → T (sheetFits members n) → outcomeOf write (formOf n) ≡ bytes (length (written n)) (written n)
 write-form n h = write-answers (formOf n) (form-bytes (numbersOf n)) _ _ .1 (n, h, refl, refl, refl)
 
 -- Whatever is read can be written: given what the numbers entry answers, the writer answers the normal bytes of the sheet that was read.
 pub numbers-then-write : (s : List ℕ) → All (λ b. b < 256) s → (item : ℕ) (l : List ℕ) → outcomeOf numbers s ≡ bytes item l
-    → (n : Sheet) × (readSheet s ≡ sheet n) × (outcomeOf write l ≡ bytes (length (written n)) (written n))
+    → (n : Sheet) × (readSheet members s ≡ value n) × (outcomeOf write l ≡ bytes (length (written n)) (written n))
 numbers-then-write s all item l q =
     let (n, r, e, i) = numbers-answers s all item l .0 q in
     (n, r, ap (outcomeOf write) e ∙ write-form n (read-fits s all n r))

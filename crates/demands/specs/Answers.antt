@@ -1,29 +1,36 @@
--- What the entries go by: the numbers form as bytes, the owner sets that a sheet has, and the refusals that stand before them.
+-- What the entries go by: the owners that a sheet's triangles have, as lists and as bits, and the refusals that stand before them.
 use mathlib.Core.Path.{_≡_}
 use mathlib.Core.Bool.{Bool}
-use mathlib.Core.List.{List, flatMap}
-use Prim.Native.Nat.{ℕ, _^_, _≤_, _<_}
-use lib.ListN.{length}
+use mathlib.Core.List.{List, []}
+use Prim.Native.Nat.{ℕ, _-_, _^_, _≤_, _<_}
+use lib.ListN.{length, getD}
 use Rattle.whole.specs.Sums.{All}
 use Rattle.plane.specs.Boundaries.{sidesOf}
-use Rattle.table.specs.Table.{RuleA, RuleB, RuleC}
+use Rattle.lent.specs.Stages.{value, refused}
+use Rattle.table.specs.Table.{frameEdges, RuleA, RuleB, RuleC}
 use Rattle.table.specs.Opposites.{opposites}
-use Rattle.lent_little.specs.Bytes.{i32}
+use Rattle.owners_marks.specs.Marks.{ownersFrom}
 use Rattle.owners.specs.Judging.{AreaOfOwnership}
-use Rattle.repair.specs.OneOwner.{OneOwner}
-use Rattle.sheet_form.specs.Numbers.{Sheet, numbersOf}
-use Rattle.sheet.specs.Read.{sheet, refused, readSheet}
+use Rattle.repair.specs.OneOwner.{OneOwner, LargestThere}
+use Rattle.sheet_form.specs.Numbers.{Sheet, members}
+use Rattle.sheet.specs.Read.{readSheet}
 use Rattle.demands.specs.Polygons.{polygon, FirstNotCarried, BitsAre}
 use Rattle.demands.specs.Triangles.{Passes, NoArea, RepeatsSide, First}
 
--- The numbers form of a sheet as bytes, each number as a little-endian i32.
-abbrev pub formOf : Sheet → List ℕ
-formOf n = flatMap i32 (numbersOf n)
+-- The bytes are read as the sheet n, its table passes the rules, each polygon is carried by its set, the only one, and `owners` has for each triangle,
+-- in table order, the numbers of the polygons whose set has it.
+pub record HasOwners (s : List ℕ) (n : Sheet) (owners : List (List ℕ)) : Type 0 where
+  pub read : readSheet members s ≡ value n
+  pub passes : Passes (n .table)
+  pub sets : List (List Bool)
+  pub as-many : length sets ≡ length (n .polygons)
+  pub of-polygon : (k : ℕ) → 1 ≤ k → k ≤ length (n .polygons) → AreaOfOwnership (n .table) (polygon (n .polygons) k) (getD sets (k - 1) [])
+  pub owners-are : owners ≡ ownersFrom (length (n .table)) 1 sets
 
 -- The bytes are read as the sheet n, its table passes the rules, and `sets` has for each triangle, in table order, its owners: bit k-1 is 1
 -- exactly if the triangle is in the set of triangles that carries polygon k, the only one, and there are no other bits.
 pub record HasSets (s : List ℕ) (n : Sheet) (sets : List ℕ) : Type 0 where
-  pub read : readSheet s ≡ sheet n
+  pub read : readSheet members s ≡ value n
   pub passes : Passes (n .table)
   pub each : length sets ≡ length (n .table)
   pub bits : (k : ℕ) → 1 ≤ k → k ≤ length (n .polygons) → (marks : List Bool) × AreaOfOwnership (n .table) (polygon (n .polygons) k) marks × BitsAre sets k marks
@@ -32,19 +39,19 @@ pub record HasSets (s : List ℕ) (n : Sheet) (sets : List ℕ) : Type 0 where
 -- The bytes are refused before any owner is known, with the first of these codes: that of reading; then, of the sheet n that is read, 10 with the
 -- first triangle of no area, 11 with the first that has a side of an earlier one, 12, and 20 with the first polygon that is not carried.
 pub data Refused (s : List ℕ) : ℕ → ℕ → Type 0 where
-  unread : {code item : ℕ} → readSheet s ≡ refused code item → Refused s code item
-  breaks-A : {k : ℕ} (n : Sheet) → readSheet s ≡ sheet n → First NoArea (n .table) k → Refused s 10 k
-  breaks-B : {k : ℕ} (n : Sheet) → readSheet s ≡ sheet n → RuleA (n .table) → First RepeatsSide (n .table) k → Refused s 11 k
-  breaks-C : (n : Sheet) → readSheet s ≡ sheet n → RuleA (n .table) → RuleB (n .table) → (RuleC (n .table) → ⊥) → Refused s 12 0
-  not-carried : {k : ℕ} (n : Sheet) → readSheet s ≡ sheet n → Passes (n .table) → FirstNotCarried (n .table) (n .polygons) k → Refused s 20 k
+  unread : {code item : ℕ} → readSheet members s ≡ refused code item → Refused s code item
+  breaks-A : {k : ℕ} (n : Sheet) → readSheet members s ≡ value n → First NoArea (n .table) k → Refused s 10 k
+  breaks-B : {k : ℕ} (n : Sheet) → readSheet members s ≡ value n → RuleA (n .table) → First RepeatsSide (n .table) k → Refused s 11 k
+  breaks-C : (n : Sheet) → readSheet members s ≡ value n → RuleA (n .table) → RuleB (n .table) → (RuleC (frameEdges (n .table)) (n .table) → ⊥) → Refused s 12 0
+  not-carried : {k : ℕ} (n : Sheet) → readSheet members s ≡ value n → Passes (n .table) → FirstNotCarried (n .table) (n .polygons) k → Refused s 20 k
 
 -- No triangle has an owner.
-abbrev pub NoOwner : List ℕ → Type 0
-NoOwner sets = All (λ set. set ≡ 0) sets
+abbrev pub NoOwner : List (List ℕ) → Type 0
+NoOwner owners = All (λ o. o ≡ []) owners
 
--- The owner numbers of the triangles after repair, one for each (OneOwner says how each is found).
-abbrev pub Repaired : Sheet → List ℕ → List ℕ → Type 0
-Repaired n sets owners = OneOwner (opposites (sidesOf (n .table))) sets owners
+-- The owner numbers of the triangles after repair, one for each: OneOwner says how each is found, LargestThere which number a gap region goes to.
+abbrev pub Repaired : Sheet → List (List ℕ) → List ℕ → Type 0
+Repaired n owners l = OneOwner (opposites (sidesOf (n .table))) owners l × LargestThere (opposites (sidesOf (n .table))) owners l
 
 -- The polygon of the number is on the sheet.
 abbrev pub OnSheet : Sheet → ℕ → Type 0

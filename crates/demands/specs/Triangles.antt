@@ -6,12 +6,12 @@ use lib.Signed.{_<ℤ_}
 use mathlib.Core.List.{List}
 use Rattle.whole.specs.Sums.{Among}
 use Rattle.plane.specs.Points.{Edge, Triangle, sides, sameEdge, double}
-use Rattle.table.specs.Table.{RuleA, RuleB, RuleC}
+use Rattle.table.specs.Table.{frameEdges, RuleA, RuleB, RuleC}
 use Rattle.sheet_written.specs.Fits.{origin}
 
 -- The table passes the three rules.
 abbrev pub Passes : List Triangle → Type 0
-Passes table = RuleA table × RuleB table × RuleC table
+Passes table = RuleA table × RuleB table × RuleC (frameEdges table) table
 
 -- The triangle of a number, the first being number 1.
 abbrev pub triangle : List Triangle → ℕ → Triangle

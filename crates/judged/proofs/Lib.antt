@@ -1,4 +1,6 @@
--- The theorems of a judged sheet.
+-- The laws of the road from bytes to a judged sheet, and of judged sheets.
+pub mod Stages
+pub mod Judging
 pub mod Read
 pub mod Repaired
 pub mod Standing

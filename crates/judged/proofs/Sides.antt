@@ -20,8 +20,8 @@ use Rattle.repair_sides.specs.Numbered.{boundaryNumbers}
 use Rattle.repair_sides.proofs.Bounding.{by-number}
 use Rattle.repair_sides.proofs.Laying.{bounding-below}
 use Rattle.sheet_form.specs.Numbers.{Sheet, memberNumbers, counted}
-use Rattle.lent_little.specs.Bytes.{heldBytes, pointBytes, sideBytes}
-use Rattle.lent_little.specs.Held.{endOf, cornerHeld, sideHeld}
+use Rattle.lent_little.specs.Bytes.{pointBytes, sideBytes}
+use Rattle.lent_little.specs.Held.{endOf, cornerHeld, sideHeld, heldBytes}
 use Rattle.sheet.specs.Held.{SheetHeld}
 use Rattle.sheet_edges.specs.Standing.{cornerAt}
 use Rattle.sheet_edges.proofs.Walk.{point-at}
@@ -81,18 +81,18 @@ module _ (size : ℕ) (long : List ℕ) (held : All Held (take size long)) (keys
 
 -- ---- for a held sheet with rule B and an owner for each triangle
 -- The bytes of a polygon's boundary sides are those of the held numbers, which may be the front of a longer list.
-pub sides-held : {n : Sheet} (size : ℕ) (long : List ℕ) (h : SheetHeld n (take size long)) (once : RuleB (n .table)) (owners : List ℕ) (fits : length owners ≡ length (n .table)) (p : ℕ)
+pub sides-held : {limit : ℕ} {n : Sheet} (size : ℕ) (long : List ℕ) (h : SheetHeld limit n (take size long)) (once : RuleB (n .table)) (owners : List ℕ) (fits : length owners ≡ length (n .table)) (p : ℕ)
     → flatMap sideBytes (boundarySides (trianglesOwned (n .table) owners p)) ≡ flatMap (sideHeld long) (boundaryNumbers (opposites (sidesOf (n .table))) owners p)
-sides-held {n} size long h once owners fits p =
+sides-held {n = n} size long h once owners fits p =
     let rest = counted memberNumbers (n .polygons) in
     let k = held-keys (take size long) (h .held) (n .table) rest (h .is) in
     subst (λ t. RuleB t → flatMap sideBytes (boundarySides (trianglesOwned t owners p)) ≡ flatMap (sideHeld long) (boundaryNumbers (opposites (sidesOf t)) owners p)) (k .2)
     (keys-held size long (h .held) (k .0) (length (n .table)) (k .1) (k .3) (table-room (take size long) (n .table) rest (h .is)) owners fits p) once
 
 -- There are as many as bound the polygon by number.
-pub sides-as-many : {n : Sheet} {numbers : List ℕ} (h : SheetHeld n numbers) (once : RuleB (n .table)) (owners : List ℕ) (fits : length owners ≡ length (n .table)) (p : ℕ)
+pub sides-as-many : {limit : ℕ} {n : Sheet} {numbers : List ℕ} (h : SheetHeld limit n numbers) (once : RuleB (n .table)) (owners : List ℕ) (fits : length owners ≡ length (n .table)) (p : ℕ)
     → length (boundarySides (trianglesOwned (n .table) owners p)) ≡ length (boundaryNumbers (opposites (sidesOf (n .table))) owners p)
-sides-as-many {n} {numbers} h once owners fits p =
+sides-as-many {n = n} {numbers = numbers} h once owners fits p =
     let k = held-keys numbers (h .held) (n .table) (counted memberNumbers (n .polygons)) (h .is) in
     subst (λ t. RuleB t → length (boundarySides (trianglesOwned t owners p)) ≡ length (boundaryNumbers (opposites (sidesOf t)) owners p)) (k .2)
     (λ once. ap length (by-number (k .0) (length (n .table)) (k .1) once owners fits p) ∙ length-map (boundaryNumbers (opposites (sidesOf (trianglesOf (k .0)))) owners p) (sideAt (k .0))) once

@@ -1,27 +1,30 @@
 -- A judged sheet as the code holds it: the sheet in numbers, its owner sets, and the side across each side.
 use mathlib.Core.Path.{_≡_}
-use mathlib.Core.List.{List}
+use mathlib.Core.List.{List, map}
 use Prim.Native.Nat.{ℕ, _*_}
 use lib.ListN.{length, take}
 use Rattle.plane.specs.Boundaries.{sidesOf}
+use Rattle.lent.specs.Stages.{value, refused}
 use Rattle.table.specs.Opposites.{opposites}
-use Rattle.sheet_form.specs.Numbers.{Sheet}
+use Rattle.owners_marks.specs.Marks.{setOf}
+use Rattle.owners_marks.specs.Sets.{ownersOf}
+use Rattle.sheet_form.specs.Numbers.{members}
 use Rattle.sheet.specs.Held.{SheetHeld}
 use Rattle.judged_sets.specs.declared.Owning.{Owning}
-use Rattle.judged.specs.Judged.{judged, refusal, judgedSheet}
 use Rattle.judged_sets.specs.declared.Owning.the-variants.{Sets, Refused}
+use Rattle.judged.specs.Judged.{Judged, judgeSheet, judgedSheet}
 
--- The bytes come to a sheet of t triangles: it stands at the front of `numbers`, the owner sets stand at the front of l, and the numbers of the
--- reverses of the table's sides at the front of `opposite`.
-pub record JudgedHeld (s : List ℕ) (t : ℕ) (numbers opposite l : List ℕ) : Type 0 where
-  pub n : Sheet
+-- The judged sheet j: it stands at the front of `numbers`, its owner sets are `sets`, each the 64-bit form of a triangle's owners, and `opposite` has
+-- for each side of its table the number of its reverse.
+pub record JudgedHeld (j : Judged) (numbers opposite sets : List ℕ) : Type 0 where
   pub size : ℕ
-  pub held : SheetHeld n (take size numbers)
-  pub many : length (n .table) ≡ t
-  pub comes : judgedSheet s ≡ judged n (take t l)
-  pub crossed : take (3 * t) opposite ≡ opposites (sidesOf (n .table))
+  pub held : SheetHeld members (j .sheet) (take size numbers)
+  pub comes : judgeSheet (j .sheet) ≡ value j
+  pub crossed : opposite ≡ opposites (sidesOf (j .sheet .table))
+  pub sets-are : sets ≡ map setOf (j .owners)
+  pub owners-are : map ownersOf sets ≡ j .owners
 
--- The answer with its three lists is what the bytes come to.
+-- The answer with its three lists is what the bytes come to: a judged sheet of t triangles, held at the fronts of the lists, or the refusal.
 abbrev pub JudgedAs : List ℕ → Owning → List ℕ → List ℕ → List ℕ → Type 0
-JudgedAs s (Sets t) numbers opposite l = JudgedHeld s t numbers opposite l
-JudgedAs s (Refused code item) numbers opposite l = judgedSheet s ≡ refusal code item
+JudgedAs s (Sets t) numbers opposite l = (j : Judged) × (judgedSheet s ≡ value j) × (length (j .sheet .table) ≡ t) × JudgedHeld j numbers (take (3 * t) opposite) (take t l)
+JudgedAs s (Refused code item) numbers opposite l = judgedSheet s ≡ refused code item

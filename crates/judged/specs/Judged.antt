@@ -1,22 +1,33 @@
--- From bytes to a judged sheet: what reading answers, then the table rules, then the judging of the polygons in number order.
+-- From bytes to a judged sheet, and on to its repair: reading, the table rules, the judging of the polygons in number order.
 use mathlib.Core.List.{List}
 use Prim.Native.Nat.{ℕ}
-use Rattle.sheet_form.specs.Numbers.{Sheet}
-use Rattle.sheet.specs.Read.{ReadSheet, sheet, refused as unread, readSheet}
-use Rattle.owners.specs.Owners.{Owned, sets, refusal as refused, ownersOf}
+use Rattle.plane.specs.Boundaries.{sidesOf}
+use Rattle.lent.specs.Stages.{Answer, value, andThen}
+use Rattle.table.specs.Table.{frameEdges, checkTable}
+use Rattle.table.specs.Opposites.{opposites}
+use Rattle.owners.specs.Owners.{judgePolygons}
+use Rattle.repair.specs.Repair.{largest, repaired}
+use Rattle.sheet_form.specs.Numbers.{Sheet, members}
+use Rattle.sheet.specs.Read.{readSheet}
 
--- What bytes come to: a sheet with the owner set of each triangle of its table, or a refusal with its code and item.
-pub data JudgedSheet : Type 0 where
-  judged : Sheet → List ℕ → JudgedSheet
-  refusal : (code item : ℕ) → JudgedSheet
+-- A judged sheet: the sheet in numbers, with the owners of each triangle of its table before repair.
+pub record Judged : Type 0 where
+  pub sheet : Sheet
+  pub owners : List (List ℕ)
 
-abbrev pub withSets : Sheet → Owned → JudgedSheet
-withSets n (sets l) = judged n l
-withSets n (refused code item) = refusal code item
+-- The table rules against the frame, and then the polygons.
+unfoldable pub judgeSheet : Sheet → Answer Judged
+judgeSheet n =
+    andThen (checkTable (frameEdges (n .table)) (n .table)) (λ _.
+    andThen (judgePolygons (n .table) (n .polygons)) (λ owners.
+    value (record { sheet = n; owners = owners })))
 
-abbrev pub ofRead : ReadSheet → JudgedSheet
-ofRead (sheet n) = withSets n (ownersOf (n .table) (n .polygons))
-ofRead (unread code item) = refusal code item
+-- What bytes come to: read as a sheet, which is judged.
+unfoldable pub judgedSheet : List ℕ → Answer Judged
+judgedSheet s = andThen (readSheet members s) judgeSheet
 
-unfoldable pub judgedSheet : List ℕ → JudgedSheet
-judgedSheet s = ofRead (readSheet s)
+-- The repair of a judged sheet: document 01 gives a gap region to the largest number across its sides.
+abbrev pub repairOf : Judged → Answer (List ℕ)
+repairOf j =
+    let opposite : List ℕ = opposites (sidesOf (j .sheet .table)) in
+    repaired (largest opposite) opposite (j .owners)

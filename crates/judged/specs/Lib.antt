@@ -1,3 +1,4 @@
--- From bytes to a judged sheet.
+-- What bytes come to once they are judged, and how the code holds it.
 pub mod Judged
+pub mod Judging
 pub mod Held

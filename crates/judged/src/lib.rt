@@ -1,9 +1,58 @@
 // From bytes to a judged sheet: reading, the table rules, and the judging of the polygons in number order.
-ghost use Prim.Native.Nat.{_≤_};
+ghost use mathlib.Core.Path.{_≡_};
+ghost use Prim.Native.Nat.{_*_, _≤_};
 ghost use lib.ListN.{length};
+ghost use Rattle.sheet_form.specs.Numbers.{Sheet, members};
+ghost use Rattle.sheet.specs.Held.{SheetHeld};
+ghost use Rattle.judged_table.specs.Checked.{Lists};
+ghost use Rattle.judged.specs.Judging.{OwnedOf};
 ghost use Rattle.judged.specs.Held.{JudgedAs};
 use judged_sets::Owning;
+use plane::OFFSET;
 use sheet::Ending;
+use sheet_form::MEMBERS;
+use table_check::Check;
+
+// The sheet in numbers with work lists of the right lengths: the table rules, and then the polygons.
+fn judge_in(
+    numbers: &[u32],
+    keys: &mut [u64],
+    ordered: &mut [u64],
+    index: &mut [u64],
+    opposite: &mut [usize],
+    sets: &mut [u64],
+) -> Owning
+    requires { ⌜ ((n : Sheet) × SheetHeld members n (now numbers) × (length (n .table) ≡ length (now sets))) × Lists (3 * length (now sets)) (now keys) (now ordered) (now index) (now opposite) ⌝ }
+    ensures { λ r. ⌜ ((n : Sheet) → SheetHeld members n (now (numbers .entry)) → length (n .table) ≡ length (now (sets .entry)) → OwnedOf n r (now (opposite .exit)) (now (sets .exit))) ⌝ }
+{
+    match judged_table::check(numbers, keys, ordered, index, opposite) {
+        Check::Refused(code, item) => Owning::Refused(code, item),
+        Check::Passed(k) => {
+            judged_sets::judge_all(numbers, &ordered[..k], index, opposite, sets)
+        }
+    }
+}
+
+// The sheet in numbers: its owner sets, laid down at the front of the lent ones, and beside them the number of the reverse of each side; or the
+// refusal.
+fn judge(numbers: &[u32], opposite: &mut [usize], sets: &mut [u64]) -> Owning
+    requires { ⌜ ((n : Sheet) × SheetHeld members n (now numbers)) × (3072 ≤ length (now opposite)) × (1024 ≤ length (now sets)) ⌝ }
+    ensures { λ r. ⌜ ((n : Sheet) → SheetHeld members n (now (numbers .entry)) → OwnedOf n r (now (opposite .exit)) (now (sets .exit))) ⌝ }
+{
+    let t = (numbers[0] - OFFSET) as usize;
+    let m = 3 * t;
+    let mut keys = [0u64; 3072];
+    let mut ordered = [0u64; 3072];
+    let mut index = [0u64; 3072];
+    judge_in(
+        numbers,
+        &mut keys[..m],
+        &mut ordered[..m],
+        &mut index[..m],
+        &mut opposite[..m],
+        &mut sets[..t],
+    )
+}
 
 // Reads the sheet and judges its polygons. On success the sheet in numbers, the number of the reverse of each side of its table, and the owner
 // sets stand at the front of the lent lists.
@@ -11,8 +60,8 @@ pub fn judged(sheet: &[u8], numbers: &mut [u32], opposite: &mut [usize], sets: &
     requires { ⌜ (16450 ≤ length (now numbers)) × (3072 ≤ length (now opposite)) × (1024 ≤ length (now sets)) ⌝ }
     ensures { λ r. ⌜ JudgedAs (now (sheet .entry)) r (now (numbers .exit)) (now (opposite .exit)) (now (sets .exit)) ⌝ }
 {
-    match sheet::read(sheet, numbers) {
+    match sheet::read(sheet, MEMBERS, numbers) {
         Ending::Refused(code, item) => Owning::Refused(code, item),
-        Ending::Sheet(n) => judged_sets::owner_sets(&numbers[..n], opposite, sets),
+        Ending::Sheet(n) => judge(&numbers[..n], opposite, sets),
     }
 }

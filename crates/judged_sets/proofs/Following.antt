@@ -13,20 +13,21 @@ use Rattle.whole.specs.Sums.{All}
 use Rattle.plane.specs.Points.{Triangle}
 use Rattle.plane.specs.Members.{Member, memberEdges}
 use Rattle.plane.specs.Corners.{millimetres}
+use Rattle.lent.specs.Stages.{Answer, value, refused, andThen}
 use Rattle.sheet_form.specs.Numbers.{memberNumbers}
 use Rattle.sheet_edges.specs.declared.Laid.{Laid}
 use Rattle.sheet_edges.specs.Standing.{LaysDown}
 use Rattle.sheet_edges.proofs.Walk.{count-first}
 use Rattle.table_count.specs.Counting.{Edged}
-use Rattle.owners_marks.specs.Marks.{ownerSets}
-use Rattle.owners_marks.specs.Marking.{marked}
-use Rattle.owners_marks.proofs.Owning.{owner-sets-more, owner-sets-below, length-owner-sets}
+use Rattle.owners_marks.specs.Sets.{ownerSets, marked}
+use Rattle.owners_marks.proofs.Owning.{owner-sets-more, owner-sets-below}
+use Rattle.owners_marks.proofs.Owners.{length-owner-sets}
 use Rattle.owners_judge.specs.declared.Judging.the-variants.{Carried, NotCarried}
 use Rattle.owners.specs.Judging.{carried, notCarried, judge}
-use Rattle.owners.specs.Owners.{Ownership, owned, notCarriedAt, followed, judgeFrom, sets, ofOwnership}
+use Rattle.owners.specs.Owners.{stageOf, judgeFrom}
 use Rattle.owners_judge.specs.Judged.{judgedOf}
 use Rattle.judged_sets.specs.declared.Turn.{Turn}
-use Rattle.judged_sets.specs.Owning.{PolygonAt, PolygonsAt, TurnOf, ownedBy}
+use Rattle.judged_sets.specs.Owning.{PolygonAt, PolygonsAt, TurnOf, heldSets}
 
 -- ---- the edges of one polygon
 module _ {numbers : List ℕ} {at : ℕ} {from₀ to₀ from to : List ℕ} {r : Laid} {m : Member} {rest : List ℤ} where
@@ -44,25 +45,24 @@ module _ {numbers : List ℕ} {at : ℕ} {from₀ to₀ from to : List ℕ} {r :
 
 -- ---- the sets found so far
 -- The sets found so far, in front of what is to come.
-abbrev pub before : List (List Bool) → Ownership → Ownership
+abbrev pub before : List (List Bool) → Answer (List (List Bool)) → Answer (List (List Bool))
 before [] o = o
-before (s ∷ l) o = followed (carried s) 0 (before l o)
+before (s ∷ l) o = andThen (before l o) (λ sets. value (s ∷ sets))
 
--- One more set is the last of those found so far, whatever the number it is found with.
-pub before-more : (l : List (List Bool)) (s : List Bool) (k : ℕ) (o : Ownership) → before l (followed (carried s) k o) ≡ before (l ++ s ∷ []) o
-before-more [] s k (owned l) = refl
-before-more [] s k (notCarriedAt j) = refl
-before-more (r ∷ l) s k o = ap (followed (carried r) 0) (before-more l s k o)
+-- One more set is the last of those found so far.
+pub before-more : (l : List (List Bool)) (s : List Bool) (o : Answer (List (List Bool))) → before l (andThen o (λ sets. value (s ∷ sets))) ≡ before (l ++ s ∷ []) o
+before-more [] s o = refl
+before-more (r ∷ l) s o = ap (λ a. andThen a (λ sets. value (r ∷ sets))) (before-more l s o)
 
 -- What is refused behind them is refused.
-pub before-refused : (l : List (List Bool)) (k : ℕ) → before l (notCarriedAt k) ≡ notCarriedAt k
-before-refused [] k = refl
-before-refused (s ∷ l) k = ap (followed (carried s) 0) (before-refused l k)
+pub before-refused : (l : List (List Bool)) (code item : ℕ) → before l (refused code item) ≡ refused code item
+before-refused [] code item = refl
+before-refused (s ∷ l) code item = ap (λ a. andThen a (λ sets. value (s ∷ sets))) (before-refused l code item)
 
 -- With nothing to come they are what all polygons come to.
-pub before-all : (l : List (List Bool)) → before l (owned []) ≡ owned l
+pub before-all : (l : List (List Bool)) → before l (value []) ≡ value l
 before-all [] = refl
-before-all (s ∷ l) = ap (followed (carried s) 0) (before-all l)
+before-all (s ∷ l) = ap (λ a. andThen a (λ sets. value (s ∷ sets))) (before-all l)
 
 all-more : {A : Type 0} (P : A → Type 0) (l : List A) (a : A) → All P l → P a → All P (l ++ a ∷ [])
 all-more P [] a h p = (p, tt)
@@ -89,10 +89,6 @@ pub polygons-count : {numbers : List ℕ} {at : ℕ} {ms : List Member} {rest : 
     → (at < length numbers) × (getD numbers at 0 ≡ length ms + 10_000_000)
 polygons-count {numbers} {at} {ms} {rest} p = let w = count-first memberNumbers numbers at ms rest (p .stand) in (w .0, w .1)
 
--- What refuses polygon k + 1 refuses all, with that number.
-pub refused-owned : (n k : ℕ) (l : List ℕ) {o : Ownership} → o ≡ notCarriedAt (suc k) → ownedBy (k + 1) l ≡ ofOwnership n o
-refused-owned n k l e = ap (λ j. ownedBy j l) (add-one k) ∙ sym (ap (ofOwnership n) e)
-
 module _ {table : List Triangle} {numbers : List ℕ} {ms : List Member} {rest : List ℤ} where
   -- Before the first polygon no set is found.
   pub following-none : {at : ℕ} {marks : List ℕ} → PolygonsAt numbers at ms rest → marks ≡ replicate (length table) 0 → Following table numbers ms rest (at + 1) 0 marks
@@ -110,6 +106,14 @@ module _ {table : List Triangle} {numbers : List ℕ} {ms : List Member} {rest :
       }
 
   module _ {at k : ℕ} {marks : List ℕ} (w : Following table numbers ms rest at k marks) where
+    -- The sets of all polygons as the code has them.
+    abbrev marks-of : Answer (List (List Bool)) → Answer (List ℕ)
+    marks-of a = andThen a (λ sets. value (ownerSets (length table) sets))
+
+    -- What comes behind polygon k + 1 with its set.
+    abbrev behind : List Member → List Bool → Answer (List (List Bool))
+    behind t s = andThen (judgeFrom table (suc (suc k)) t) (λ sets. value (s ∷ sets))
+
     -- The marks are as many as the triangles, and below bit k.
     pub following-marks : (length marks ≡ length table) × All (λ x. x < 2 ^ k) marks
     following-marks = (
@@ -128,17 +132,18 @@ module _ {table : List Triangle} {numbers : List ℕ} {ms : List Member} {rest :
         go (m ∷ t) l f s = (m, flatMap memberNumbers t ++ rest, record { numbers-at = s ∙ append-assoc (memberNumbers m) (flatMap memberNumbers t) rest; few = f .0 })
 
     -- The one at the place is not carried: that is what all come to.
-    pub following-refused : {r : Turn} {labels : List Bool} → k < length ms → Turns table numbers at r labels → r .judging ≡ NotCarried → judgeFrom table 1 ms ≡ notCarriedAt (suc k)
+    pub following-refused : {r : Turn} {labels : List Bool} → k < length ms → Turns table numbers at r labels → r .judging ≡ NotCarried → refused 20 (k + 1) ≡ heldSets table ms
     unfolding flatMap
     following-refused {r} {labels} h turns e = go (w .todo) (w .left) (w .few) (w .stand) (w .comes)
       where
         go : (todo : List Member) → k + length todo ≡ length ms → All (λ m. length (memberEdges m) ≤ 4096) todo → map millimetres (drop at numbers) ≡ flatMap memberNumbers todo ++ rest
-            → judgeFrom table 1 ms ≡ before (w .done) (judgeFrom table (suc k) todo) → judgeFrom table 1 ms ≡ notCarriedAt (suc k)
+            → judgeFrom table 1 ms ≡ before (w .done) (judgeFrom table (suc k) todo) → refused 20 (k + 1) ≡ heldSets table ms
         go [] l f s q = absurd (omega arith)
         go (m ∷ t) l f s q =
             let x = turns m (flatMap memberNumbers t ++ rest) (record { numbers-at = s ∙ append-assoc (memberNumbers m) (flatMap memberNumbers t) rest; few = f .0 }) in
             let y : judge table m ≡ notCarried = sym (x .judged) ∙ ap (λ j. judgedOf j labels) e in
-            q ∙ ap (λ j. before (w .done) (followed j (suc k) (judgeFrom table (suc (suc k)) t))) y ∙ before-refused (w .done) (suc k)
+            ap (refused 20) (add-one k)
+            ∙ sym (ap marks-of (q ∙ ap (λ j. before (w .done) (andThen (stageOf (suc k) j) (behind t))) y ∙ before-refused (w .done) 20 (suc k)))
 
     -- The one at the place is carried: one set more is found, and marked.
     pub following-more : {r : Turn} {labels : List Bool} → k < length ms → Turns table numbers at r labels → r .judging ≡ Carried → length labels ≡ length table
@@ -160,15 +165,15 @@ module _ {table : List Triangle} {numbers : List ℕ} {ms : List Member} {rest :
               left = omega arith;
               few = f .1;
               stand = x .behind;
-              comes = q ∙ ap (λ j. before (w .done) (followed j (suc k) (judgeFrom table (suc (suc k)) t))) y ∙ before-more (w .done) labels (suc k) (judgeFrom table (suc (suc k)) t)
+              comes = q ∙ ap (λ j. before (w .done) (andThen (stageOf (suc k) j) (behind t))) y ∙ before-more (w .done) labels (judgeFrom table (suc (suc k)) t)
                   ∙ ap (λ j. before (w .done ++ labels ∷ []) (judgeFrom table (suc j) t)) (sym (add-one k));
               marks-are = ap (marked k labels) (w .marks-are) ∙ ap (λ j. marked j labels (ownerSets (length table) (w .done))) (sym (w .many)) ∙ sym (owner-sets-more (length table) (w .done) labels);
             }
 
     -- None is left: the marks are what all come to.
-    pub following-done : length ms ≤ k → sets marks ≡ ofOwnership (length table) (judgeFrom table 1 ms)
+    pub following-done : length ms ≤ k → value marks ≡ heldSets table ms
     following-done h = go (w .todo) (w .left) (w .comes)
       where
-        go : (todo : List Member) → k + length todo ≡ length ms → judgeFrom table 1 ms ≡ before (w .done) (judgeFrom table (suc k) todo) → sets marks ≡ ofOwnership (length table) (judgeFrom table 1 ms)
-        go [] l q = ap sets (w .marks-are) ∙ sym (ap (ofOwnership (length table)) (q ∙ before-all (w .done)))
+        go : (todo : List Member) → k + length todo ≡ length ms → judgeFrom table 1 ms ≡ before (w .done) (judgeFrom table (suc k) todo) → value marks ≡ heldSets table ms
+        go [] l q = ap value (w .marks-are) ∙ sym (ap marks-of (q ∙ before-all (w .done)))
         go (m ∷ t) l q = absurd (omega arith)

@@ -1,5 +1,3 @@
--- The laws of owner sets.
+-- The laws of polygons judged in number order.
 pub mod Standing
-pub mod Checking
 pub mod Following
-pub mod OneOutcome

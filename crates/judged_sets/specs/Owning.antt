@@ -1,31 +1,24 @@
--- How the code's answers show what a sheet comes to: one polygon judged, all polygons judged, the owner sets.
+-- How the code's answers show what the polygons of a sheet come to: one polygon judged, all polygons judged, the owner sets.
 use mathlib.Core.Path.{_≡_}
 use mathlib.Core.Bool.{Bool}
 use mathlib.Core.List.{List, map}
-use Prim.Native.Nat.{ℕ, zero, suc, _*_, _≤_}
+use Prim.Native.Nat.{ℕ, _≤_}
 use lib.IntN.{ℤ}
 use lib.ListN.{length, take, drop}
 use Rattle.whole.specs.Sums.{All}
 use Rattle.plane.specs.Points.{Triangle}
 use Rattle.plane.specs.Members.{Member, memberEdges}
 use Rattle.plane.specs.Corners.{millimetres}
-use Rattle.plane.specs.Boundaries.{sidesOf}
-use Rattle.table.specs.Opposites.{opposites}
-use Rattle.sheet_form.specs.Numbers.{Sheet, counted, memberNumbers}
+use Rattle.lent.specs.Stages.{Answer, value, refused, andThen}
+use Rattle.sheet_form.specs.Numbers.{counted, memberNumbers}
 use Rattle.sheet_edges.specs.Standing.{NumbersAt}
-use Rattle.owners.specs.Judging.{judge, notCarried, code}
-use Rattle.owners.specs.Owners.{Owned, sets, refusal, ownersOf}
+use Rattle.owners_marks.specs.Sets.{ownerSets}
+use Rattle.owners.specs.Judging.{judge}
+use Rattle.owners.specs.Owners.{judgeFrom}
 use Rattle.owners_judge.specs.Judged.{judgedOf}
 use Rattle.judged_sets.specs.declared.Owning.{Owning}
 use Rattle.judged_sets.specs.declared.Owning.the-variants.{Sets, Refused as Refusal}
 use Rattle.judged_sets.specs.declared.Turn.{Turn}
-
--- Work lists of one length.
-pub record Lists (n : ℕ) (k r i o : List ℕ) : Type 0 where
-  pub keys : length k ≡ n
-  pub ordered : length r ≡ n
-  pub index : length i ≡ n
-  pub opposite : length o ≡ n
 
 -- A polygon stands at the place, with at most 4,096 edges.
 pub record PolygonAt (numbers : List ℕ) (at : ℕ) (m : Member) (rest : List ℤ) : Type 0 where
@@ -43,28 +36,16 @@ pub record PolygonsAt (numbers : List ℕ) (at : ℕ) (ms : List Member) (rest :
   pub many : length ms ≤ 64
   pub few : All (λ m. length (memberEdges m) ≤ 4096) ms
 
--- The owner sets, or 20 for the polygon with the number.
-abbrev pub ownedBy : ℕ → List ℕ → Owned
-ownedBy zero l = sets l
-ownedBy (suc k) l = refusal (code notCarried) (suc k)
+-- The polygons judged in number order, the owners of each triangle as the 64-bit set that the code makes of them.
+abbrev pub heldSets : List Triangle → List Member → Answer (List ℕ)
+heldSets table polygons = andThen (judgeFrom table 1 polygons) (λ sets. value (ownerSets (length table) sets))
 
 -- The answer with the lent numbers: the owner sets of so many triangles, or the refusal.
-abbrev pub ownedAs : Owning → List ℕ → Owned
-ownedAs (Sets n) l = sets (take n l)
-ownedAs (Refusal number item) l = refusal number item
+abbrev pub ownedAs : Owning → List ℕ → Answer (List ℕ)
+ownedAs (Sets n) l = value (take n l)
+ownedAs (Refusal code item) l = refused code item
 
 -- Owner sets are told of one for each of m triangles.
 abbrev pub OneEach : Owning → ℕ → Type 0
 OneEach (Sets n) m = n ≡ m
-OneEach (Refusal number item) m = Unit {0}
-
--- Beside owner sets the number of the reverse of each side of the table stands in a list.
-abbrev pub Crossed : Owning → List Triangle → List ℕ → Type 0
-Crossed (Sets n) table opposite = take (3 * n) opposite ≡ opposites (sidesOf table)
-Crossed (Refusal number item) table opposite = Unit {0}
-
--- The answer with the two lists is what the sheet comes to.
-pub record OwnedOf (n : Sheet) (r : Owning) (opposite l : List ℕ) : Type 0 where
-  pub is : ownedAs r l ≡ ownersOf (n .table) (n .polygons)
-  pub each : OneEach r (length (n .table))
-  pub crossed : Crossed r (n .table) opposite
+OneEach (Refusal code item) m = Unit {0}

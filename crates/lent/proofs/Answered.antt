@@ -4,10 +4,11 @@ use mathlib.Core.List.{List, _++_}
 use Prim.Native.Nat.{ℕ, _+_, _*_, _≤_, _<_}
 use borrow.Author.Tests.{le-leb, lt-leb}
 use lib.ListN.{length, drop}
-use Rattle.lent.specs.Answered.{Outcome, refusal, bytes, Answered}
+use Rattle.lent.specs.Stages.{refused}
+use Rattle.lent.specs.Answered.{Outcome, bytes, Answered}
 
 module _ (o : Outcome) (lent : List ℕ) where
-  pub answered-refusal : (code item : ℕ) → o ≡ refusal code item → Answered o lent (item * 256 + code) lent
+  pub answered-refusal : (code item : ℕ) → o ≡ refused code item → Answered o lent (item * 256 + code) lent
   answered-refusal code item e = rw e (record { answer = refl; left = refl })
 
   module _ (item : ℕ) (l : List ℕ) (e : o ≡ bytes item l) where

@@ -1,2 +1,3 @@
--- The laws of answers and of bytes written over lent ones.
+-- The laws of stages, of answers and of bytes written over lent ones.
+pub mod Stages
 pub mod Answered

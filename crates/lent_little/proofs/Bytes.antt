@@ -8,8 +8,8 @@ use lib.ListN.{length, getD, take, drop, length-append, length-drop}
 use lib.Seq.{take-suc, take-at, sets, sets-eq, drop-drop, drop-append-add, length-take-le}
 use Rattle.whole.proofs.Sums.{flatMap-++}
 use Rattle.lent_little.specs.Ordered.{bytes}
-use Rattle.lent_little.specs.Bytes.{heldBytes, setBytes}
-use Rattle.lent_little.specs.Held.{cornerHeld, sideHeld}
+use Rattle.lent_little.specs.Bytes.{setBytes}
+use Rattle.lent_little.specs.Held.{cornerHeld, sideHeld, heldBytes}
 
 pub held-length : (h : ℕ) → length (heldBytes h) ≡ 4
 unfolding bytes

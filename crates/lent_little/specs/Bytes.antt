@@ -4,17 +4,12 @@ use Prim.Native.Nat.{ℕ}
 use lib.IntN.{ℤ}
 use mir.Syntax.{w32}
 use mir.Val.{ofZ}
-use Rattle.plane.specs.Corners.{millimetres}
 use Rattle.plane.specs.Points.{Point, Edge}
 use Rattle.lent_little.specs.Ordered.{bytes}
 
 -- A number as a little-endian i32.
 abbrev pub i32 : ℤ → List ℕ
 i32 z = bytes 4 (ofZ w32 z)
-
--- A held number as a little-endian i32.
-abbrev pub heldBytes : ℕ → List ℕ
-heldBytes h = i32 (millimetres h)
 
 -- An owner set as a little-endian u64.
 abbrev pub setBytes : ℕ → List ℕ

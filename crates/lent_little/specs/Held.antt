@@ -1,8 +1,13 @@
--- The bytes of a side off the numbers that the code holds.
+-- The bytes of numbers and sides off the numbers that the code holds.
 use mathlib.Core.List.{List, _++_}
 use Prim.Native.Nat.{ℕ, _+_, _-_, _*_, _%_, _≤_}
 use lib.ListN.{length, getD}
-use Rattle.lent_little.specs.Bytes.{heldBytes}
+use Rattle.plane.specs.Corners.{millimetres}
+use Rattle.lent_little.specs.Bytes.{i32}
+
+-- A held number as a little-endian i32.
+abbrev pub heldBytes : ℕ → List ℕ
+heldBytes h = i32 (millimetres h)
 
 -- Side k of the table off the held numbers: corner k, and then the next corner of its triangle.
 abbrev pub endOf : ℕ → ℕ

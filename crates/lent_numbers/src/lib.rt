@@ -7,7 +7,7 @@ ghost use lib.Seq.{sets};
 ghost use mir.Syntax.{w32};
 ghost use mir.Val.{ofZ};
 ghost use Rattle.plane.specs.Corners.{millimetres};
-ghost use Rattle.lent_little.specs.Bytes.{heldBytes};
+ghost use Rattle.lent_little.specs.Held.{heldBytes};
 
 // A held number as the bits of an i32.
 fn bits(h: u32) -> u32

@@ -13,6 +13,7 @@ use Rattle.plane.specs.Keys.{Held}
 use Rattle.sheet_form.specs.Numbers.{triangleNumbers, memberNumbers, counted}
 use Rattle.sheet_edges.specs.Standing.{NumbersAt}
 use Rattle.sheet_edges.proofs.Triangles.{table-room}
+use Rattle.judged.specs.Judged.{Judged}
 use Rattle.judged.specs.Held.{JudgedHeld}
 
 map-take : {A B : Type 0} (f : A → B) (k : ℕ) (l : List A) → map f (take k l) ≡ take k (map f l)
@@ -25,9 +26,9 @@ unfolding flatMap
 six-each [] = omega arith
 six-each (t ∷ table) = omega (arith, length-append (triangleNumbers t) (flatMap triangleNumbers table), six-each table)
 
-module _ {s : List ℕ} {t : ℕ} {numbers opposite l : List ℕ} (w : JudgedHeld s t numbers opposite l) where
+module _ {j : Judged} {numbers opposite sets : List ℕ} (w : JudgedHeld j numbers opposite sets) {t : ℕ} (many : length (j .sheet .table) ≡ t) where
   room-held : 1 + 6 * t ≤ length (take (w .size) numbers)
-  room-held = omega (arith, w .many, table-room (take (w .size) numbers) (w .n .table) (counted memberNumbers (w .n .polygons)) (w .held .is))
+  room-held = omega (arith, many, table-room (take (w .size) numbers) (j .sheet .table) (counted memberNumbers (j .sheet .polygons)) (w .held .is))
 
   pub table-fits : 1 + 6 * t ≤ length numbers
   table-fits = omega (arith, room-held, length-take (w .size) numbers)
@@ -38,10 +39,10 @@ module _ {s : List ℕ} {t : ℕ} {numbers opposite l : List ℕ} (w : JudgedHel
   pub table-held : All Held (take (1 + 6 * t) numbers)
   table-held = subst (All Held) front (all-take Held (1 + 6 * t) (take (w .size) numbers) (w .held .held))
 
-  pub table-front : NumbersAt (counted triangleNumbers) (take (1 + 6 * t) numbers) 0 (w .n .table) []
+  pub table-front : NumbersAt (counted triangleNumbers) (take (1 + 6 * t) numbers) 0 (j .sheet .table) []
   table-front =
       ap (map millimetres) (sym front)
       ∙ map-take millimetres (1 + 6 * t) (take (w .size) numbers)
       ∙ ap (take (1 + 6 * t)) (w .held .is)
-      ∙ take-at (counted triangleNumbers (w .n .table)) (counted memberNumbers (w .n .polygons)) (1 + 6 * t) (omega (arith, six-each (w .n .table), w .many))
-      ∙ sym (append-nil (counted triangleNumbers (w .n .table)))
+      ∙ take-at (counted triangleNumbers (j .sheet .table)) (counted memberNumbers (j .sheet .polygons)) (1 + 6 * t) (omega (arith, six-each (j .sheet .table), many))
+      ∙ sym (append-nil (counted triangleNumbers (j .sheet .table)))

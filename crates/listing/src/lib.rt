@@ -1,19 +1,20 @@
 // The printed listing of a sheet, put together in lent text.
+ghost use mathlib.Core.Path.{_≡_};
 ghost use mathlib.Core.List.{List};
 ghost use Prim.Native.Nat.{ℕ, _≤_};
 ghost use lib.ListN.{length};
-ghost use Rattle.judged.specs.Judged.{judgedSheet};
+ghost use Rattle.judged.specs.Judged.{Judged, judgedSheet};
 ghost use Rattle.judged.specs.Held.{JudgedHeld};
 ghost use Rattle.lent_text.specs.Putting.{Put};
-ghost use Rattle.listing.specs.Listing.{listing};
+ghost use Rattle.listing.specs.Listing.{listingOf, listing};
 ghost use Rattle.listing.specs.Held.{AreasOf};
 use judged_sets::Owning;
 use plane::OFFSET;
 
-// The double area of each triangle of the sheet.
+// The double area of each triangle of a judged sheet.
 fn lay_areas(numbers: &[u32], areas: &mut [u64])
-    requires { ⌜ ((s : List ℕ) × (opposite : List ℕ) × (l : List ℕ) × JudgedHeld s (length (now areas)) (now numbers) opposite l) ⌝ }
-    ensures { λ _. ⌜ ((s opposite l : List ℕ) (w : JudgedHeld s (length (now (areas .entry))) (now (numbers .entry)) opposite l) → AreasOf (w .n) (now (areas .exit))) ⌝ }
+    requires { ⌜ ((j : Judged) × (opposite : List ℕ) × (sets : List ℕ) × JudgedHeld j (now numbers) opposite sets × (length sets ≡ length (now areas))) ⌝ }
+    ensures { λ _. ⌜ ((j : Judged) (opposite sets : List ℕ) → JudgedHeld j (now (numbers .entry)) opposite sets → length sets ≡ length (now (areas .entry)) → AreasOf (j .sheet) (now (areas .exit))) ⌝ }
 {
     let n = areas.len();
     let mut keys = [0u64; 3072];
@@ -21,17 +22,18 @@ fn lay_areas(numbers: &[u32], areas: &mut [u64])
     listing_figures::areas(&keys[..3 * n], areas);
 }
 
-// The listing of a judged sheet of n triangles.
-fn put_judged(numbers: &[u32], opposite: &[usize], sets: &[u64], n: usize, text: &mut [u8]) -> usize
-    requires { ⌜ ((s : List ℕ) × JudgedHeld s n (now numbers) (now opposite) (now sets)) × (6600 ≤ length (now text)) ⌝ }
-    ensures { λ r. ⌜ (r ≤ 6600) × ((s : List ℕ) → JudgedHeld s n (now (numbers .entry)) (now (opposite .entry)) (now (sets .entry)) → Put 0 (listing (judgedSheet s)) (now (text .entry)) r (now (text .exit))) ⌝ }
+// The listing of a judged sheet.
+fn put_judged(numbers: &[u32], opposite: &[usize], sets: &[u64], text: &mut [u8]) -> usize
+    requires { ⌜ ((j : Judged) × JudgedHeld j (now numbers) (now opposite) (now sets)) × (6600 ≤ length (now text)) ⌝ }
+    ensures { λ r. ⌜ (r ≤ 6600) × ((j : Judged) → JudgedHeld j (now (numbers .entry)) (now (opposite .entry)) (now (sets .entry)) → Put 0 (listingOf j) (now (text .entry)) r (now (text .exit))) ⌝ }
 {
+    let n = sets.len();
     let polygons = numbers[1 + 6 * n] - OFFSET;
     let mut areas = [0u64; 1024];
     let mut owners = [0u8; 1024];
     lay_areas(numbers, &mut areas[..n]);
-    let done = repair::repair(&opposite[..3 * n], &sets[..n], &mut owners[..n]);
-    listing_lines::put_lines(text, done, polygons, &sets[..n], &owners[..n], &areas[..n])
+    let done = repair::repair(opposite, sets, &mut owners[..n]);
+    listing_lines::put_lines(text, done, polygons, sets, &owners[..n], &areas[..n])
 }
 
 // The listing of a sheet, put at the front of the lent text; what stands behind it keeps its value.
@@ -50,6 +52,6 @@ pub fn print(sheet: &[u8], text: &mut [u8]) -> usize
             code as u64,
             item as u64,
         ),
-        Owning::Sets(n) => put_judged(&numbers, &opposite, &sets, n, text),
+        Owning::Sets(n) => put_judged(&numbers, &opposite[..3 * n], &sets[..n], text),
     }
 }

@@ -13,8 +13,9 @@ use Rattle.whole.specs.Sums.{All, sum, bit}
 use Rattle.whole.proofs.Sums.{all-at}
 use Rattle.plane.specs.Points.{Triangle, double}
 use Rattle.table.specs.Sets.{chosen}
-use Rattle.owners_marks.specs.Marks.{ownerSets}
-use Rattle.owners_marks.proofs.Owning.{bit-stands, length-owner-sets}
+use Rattle.owners_marks.specs.Sets.{ownerSets}
+use Rattle.owners_marks.proofs.Owning.{bit-stands}
+use Rattle.owners_marks.proofs.Owners.{length-owner-sets}
 use Rattle.listing_figures.specs.declared.Figure.{Figure}
 use Rattle.listing_figures.specs.declared.Figure.the-variants.{Before, After}
 use Rattle.listing_figures.specs.Figures.{counts, marksOf, total}

@@ -3,7 +3,7 @@ use mathlib.Core.Bool.{Bool}
 use mathlib.Core.List.{List, [], _∷_}
 use Prim.Native.Nat.{ℕ, _+_, _-_, _/_, _%_, _^_, _≤_}
 use lib.Dec.{eqb}
-use Rattle.owners_marks.specs.Marks.{standingOf}
+use Rattle.owners_marks.specs.Sets.{standingOf}
 use Rattle.listing_figures.specs.declared.Figure.{Figure}
 use Rattle.listing_figures.specs.Standings.{isGap, isOverlap}
 use Rattle.listing_figures.specs.declared.Figure.the-variants.{Gaps, Overlaps, Before, After}

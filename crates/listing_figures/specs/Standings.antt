@@ -5,7 +5,6 @@ use Prim.Native.Nat.{ℕ}
 use lib.IntN.{ℤ, pos, _+ℤ_, _*ℤ_}
 use lib.ListN.{length}
 use Rattle.plane.specs.Points.{Triangle, double}
-use Rattle.owners_marks.specs.Marks.{ownersIn}
 use Rattle.owners_marks.specs.declared.Standing.{Standing}
 use Rattle.owners_marks.specs.declared.Standing.the-variants.{Gap, Single, Overlap}
 
@@ -26,7 +25,7 @@ isOverlap (Single k) = false
 isOverlap (Overlap k) = true
 
 -- The double area of each triangle as often as it has owners.
-abbrev pub owing : List Triangle → List ℕ → ℤ
+abbrev pub owing : List Triangle → List (List ℕ) → ℤ
 owing [] l = pos 0
 owing (t ∷ table) [] = pos 0
-owing (t ∷ table) (set ∷ l) = double t *ℤ pos (length (ownersIn 64 0 set)) +ℤ owing table l
+owing (t ∷ table) (o ∷ l) = double t *ℤ pos (length o) +ℤ owing table l

@@ -23,6 +23,10 @@ afterWord = ascii "after"
 abbrev pub refusedWord : List ℕ
 refusedWord = ascii "refused"
 
+-- The line of a refusal: its code and its item.
+abbrev pub refusedLine : ℕ → ℕ → List ℕ
+refusedLine code item = lineOf refusedWord (pos code) (pos item)
+
 -- The two lines of the verdict, each with its line feed.
 abbrev pub cleanLine : List ℕ
 cleanLine = ascii "verdict clean" ++ 10 ∷ []

@@ -9,11 +9,13 @@ use lib.ListN.{length}
 use Rattle.whole.specs.Sums.{All}
 use Rattle.table.specs.Sets.{chosen}
 use Rattle.repair_regions.specs.Regions.{from}
+use Rattle.repair.specs.declared.Repaired.{Repaired}
+use Rattle.repair.specs.declared.Repaired.the-variants.{Done, Refused}
 use Rattle.lent_text.specs.Text.{lineOf}
 use Rattle.listing_figures.specs.declared.Figure.{Figure}
 use Rattle.listing_figures.specs.declared.Figure.the-variants.{Gaps, Overlaps, Before, After}
 use Rattle.listing_figures.specs.Figures.{marksOf, total}
-use Rattle.listing_lines.specs.Lines.{sheetWord, polygonWord, gapWord, overlapWord, afterWord, refusedWord, cleanLine, repairLine, numbered}
+use Rattle.listing_lines.specs.Lines.{sheetWord, polygonWord, gapWord, overlapWord, afterWord, refusedLine, cleanLine, repairLine, numbered}
 
 -- The figure of polygon k, after repair or before.
 abbrev pub figureOf : Bool → ℕ → Figure
@@ -41,13 +43,13 @@ headBy polygons l owners areas =
     ++ lineBy overlapWord Overlaps l owners areas
     ++ verdictBy l owners areas
 
--- The lines behind the verdict: what each polygon owns after repair, or that repair is refused.
-abbrev pub afterBy : Bool → ℕ → List ℕ → List ℕ → List ℕ → List ℕ
-afterBy true polygons l owners areas = numbered afterWord 1 (map (areaBy true l owners areas) (from 1 polygons))
-afterBy false polygons l owners areas = lineOf refusedWord (pos 30) (pos 0)
+-- The lines behind the verdict: what each polygon owns after repair, or the refusal of repair.
+abbrev pub afterBy : Repaired → ℕ → List ℕ → List ℕ → List ℕ → List ℕ
+afterBy Done polygons l owners areas = numbered afterWord 1 (map (areaBy true l owners areas) (from 1 polygons))
+afterBy (Refused code item) polygons l owners areas = refusedLine code item
 
 -- All of its lines.
-abbrev pub linesBy : Bool → ℕ → List ℕ → List ℕ → List ℕ → List ℕ
+abbrev pub linesBy : Repaired → ℕ → List ℕ → List ℕ → List ℕ → List ℕ
 linesBy done polygons l owners areas = headBy polygons l owners areas ++ afterBy done polygons l owners areas
 
 -- The lists of a sheet's figures: an owner set, an owner number and a double area for each triangle.

@@ -7,6 +7,7 @@ ghost use Rattle.repair_regions.specs.Regions.{from};
 ghost use Rattle.listing_lines.specs.Lines.{numbered};
 ghost use Rattle.listing_lines.specs.Printing.{Figures, areaBy, headBy, afterBy, linesBy};
 use listing_figures::Figure;
+use repair::Repaired;
 
 // A line for each polygon: the word, its number, and the double area of what it owns before repair or after.
 fn put_polygons(
@@ -71,11 +72,11 @@ fn put_head(text: &mut [u8], polygons: u32, sets: &[u64], owners: &[u8], areas: 
     lent_text::put_word(text, overlap, b"verdict repair\n")
 }
 
-// The lines behind the verdict: what each polygon owns after repair, or that repair is refused.
+// The lines behind the verdict: what each polygon owns after repair, or the refusal of repair.
 fn put_after(
     text: &mut [u8],
     at: usize,
-    done: bool,
+    done: Repaired,
     polygons: u32,
     sets: &[u64],
     owners: &[u8],
@@ -84,16 +85,22 @@ fn put_after(
     requires { ⌜ Figures (now sets) (now owners) (now areas) × (polygons ≤ 64) × (at + 3200 ≤ length (now text)) ⌝ }
     ensures { λ r. ⌜ (r ≤ at + 3200) × Put at (afterBy done polygons (now (sets .entry)) (now (owners .entry)) (now (areas .entry))) (now (text .entry)) r (now (text .exit)) ⌝ }
 {
-    if done {
-        return put_polygons(text, at, b"after", true, polygons, sets, owners, areas);
+    match done {
+        Repaired::Done => put_polygons(text, at, b"after", true, polygons, sets, owners, areas),
+        Repaired::Refused(code, item) => lent_text::put_line(
+            text,
+            at,
+            b"refused",
+            code as u64,
+            item as u64,
+        ),
     }
-    lent_text::put_line(text, at, b"refused", 30, 0)
 }
 
 // The lines of a judged sheet, at the front of the text.
 pub fn put_lines(
     text: &mut [u8],
-    done: bool,
+    done: Repaired,
     polygons: u32,
     sets: &[u64],
     owners: &[u8],

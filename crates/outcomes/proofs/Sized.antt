@@ -4,7 +4,6 @@
 use mathlib.Core.Path.{_≡_}
 use mathlib.Core.Bool.{Bool}
 use mathlib.Core.List.{List, [], _∷_, _++_, map, flatMap}
-use mathlib.Core.Option.{Option, none, some}
 use Prim.Native.Nat.{ℕ, zero, suc, _+_, _*_, _/_, _%_, _≤_}
 use native.Mathlib.Nat.{mul-suc}
 use native.Mathlib.Omega.{arith}
@@ -16,14 +15,14 @@ use Rattle.whole.proofs.Tests.{by-cond}
 use Rattle.plane.specs.Points.{Triangle, sides, double}
 use Rattle.plane.specs.Boundaries.{sidesOf}
 use Rattle.plane.specs.Members.{doubleArea}
-use Rattle.table.specs.Opposites.{opposites}
-use Rattle.owners_marks.specs.Marks.{standingOf}
+use Rattle.lent.specs.Stages.{Answer, value, refused}
+use Rattle.owners_marks.specs.Marks.{standingBy}
 use Rattle.repair_regions.specs.Regions.{from}
 use Rattle.repair_regions.proofs.Regions.{length-map-from}
-use Rattle.repair.specs.Repair.{repaired}
 use Rattle.repair_sides.specs.Sides.{unmatched, boundarySides, ownedBy, trianglesOwned}
 use Rattle.listing_figures.proofs.Totals.{chosen-fewer}
 use Rattle.sheet_form.specs.Numbers.{Sheet}
+use Rattle.judged.specs.Judged.{Judged, repairOf}
 use Rattle.lent_text.specs.Text.{digits, decimal, decimalOf, lineOf}
 use Rattle.listing_lines.specs.Lines.{sheetWord, polygonWord, gapWord, overlapWord, afterWord, refusedWord, cleanLine, repairLine, numbered}
 use Rattle.listing.specs.Listing.{figureLine, gapsOf, overlapsOf, verdictLine, afterLines, headOf, listingOf}
@@ -56,40 +55,39 @@ module _ (word : List ℕ) where
       omega (arith, length-append (lineOf word (pos k) b) (numbered word (suc k) l), line-most k b, numbered-most (suc k) l, mul-suc (length word + 44) (length l))
 
 -- ---- the listing of a judged sheet
-verdict-most : (sets : List ℕ) → length (verdictLine sets) ≤ 15
-verdict-most sets = by-cond (λ l. length l ≤ 15) (every (λ set. isSingle (standingOf set)) sets) cleanLine repairLine (λ t. omega arith) (omega arith)
+verdict-most : (owners : List (List ℕ)) → length (verdictLine owners) ≤ 15
+verdict-most owners = by-cond (λ l. length l ≤ 15) (every (λ o. isSingle (standingBy o)) owners) cleanLine repairLine (λ t. omega arith) (omega arith)
 
 module _ (n : Sheet) (few : length (n .polygons) ≤ 64) where
-  head-most : (sets : List ℕ) → length (headOf n sets) ≤ 3426
-  head-most sets =
+  head-most : (owners : List (List ℕ)) → length (headOf n owners) ≤ 3426
+  head-most owners =
       let first = lineOf sheetWord (pos (length (n .table))) (pos (length (n .polygons))) in
       let lines = numbered polygonWord 1 (map doubleArea (n .polygons)) in
-      let gap = figureLine gapWord (gapsOf (n .table) sets) in
-      let overlap = figureLine overlapWord (overlapsOf (n .table) sets) in
+      let gap = figureLine gapWord (gapsOf (n .table) owners) in
+      let overlap = figureLine overlapWord (overlapsOf (n .table) owners) in
       omega (
         arith,
-        length-append (first ++ lines ++ gap ++ overlap) (verdictLine sets),
+        length-append (first ++ lines ++ gap ++ overlap) (verdictLine owners),
         length-append (first ++ lines ++ gap) overlap,
         length-append (first ++ lines) gap,
         length-append first lines,
         line-most sheetWord (length (n .table)) (pos (length (n .polygons))),
         numbered-most polygonWord 1 (map doubleArea (n .polygons)),
         length-map (n .polygons) doubleArea,
-        line-most gapWord (length (gapsOf (n .table) sets)) (sum double (gapsOf (n .table) sets)),
-        line-most overlapWord (length (overlapsOf (n .table) sets)) (sum double (overlapsOf (n .table) sets)),
-        verdict-most sets,
+        line-most gapWord (length (gapsOf (n .table) owners)) (sum double (gapsOf (n .table) owners)),
+        line-most overlapWord (length (overlapsOf (n .table) owners)) (sum double (overlapsOf (n .table) owners)),
+        verdict-most owners,
       )
 
-  after-most : (owners : Option (List ℕ)) → length (afterLines n owners) ≤ 3136
-  after-most none = omega (arith, line-most refusedWord 30 (pos 0))
-  after-most (some owners) =
+  after-most : (owners : Answer (List ℕ)) → length (afterLines n owners) ≤ 3136
+  after-most (refused code item) = omega (arith, line-most refusedWord code (pos item))
+  after-most (value owners) =
       let area : ℕ → ℤ = λ polygon. sum double (trianglesOwned (n .table) owners polygon) in
       omega (arith, numbered-most afterWord 1 (map area (from 1 (length (n .polygons)))), length-map-from area 1 (length (n .polygons)))
 
-  pub listing-most : (sets : List ℕ) → length (listingOf n sets) ≤ 6600
-  listing-most sets =
-      let owners = repaired (opposites (sidesOf (n .table))) sets in
-      omega (arith, length-append (headOf n sets) (afterLines n owners), head-most sets, after-most owners)
+pub listing-most : (j : Judged) → length (j .sheet .polygons) ≤ 64 → length (listingOf j) ≤ 6600
+listing-most j few =
+    omega (arith, length-append (headOf (j .sheet) (j .owners)) (afterLines (j .sheet) (repairOf j)), head-most (j .sheet) few (j .owners), after-most (j .sheet) few (repairOf j))
 
 -- ---- boundary sides
 passing-fewer : {A : Type 0} (test : A → Bool) (l : List A) → length (passing test l) ≤ length l

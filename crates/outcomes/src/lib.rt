@@ -1,1 +1,14 @@
-// No code: what each entry comes to, for every sequence of bytes.
+// What is asked of the entries that judge a sheet. Each entry fills it in.
+
+// What is wanted of a judged sheet: the owners of each triangle before repair; the owner of each after repair; the boundary sides of a polygon
+// after repair, by its number.
+pub enum Wanted {
+    OwnerSets,
+    Owners,
+    Boundary(u32),
+}
+
+// What is asked besides the bytes.
+pub struct Asked {
+    pub wanted: Wanted,
+}

@@ -6,9 +6,11 @@ use lib.ListN.{length}
 use Rattle.whole.specs.Sums.{sum}
 use Rattle.plane.specs.Points.{Point, Triangle, double}
 use Rattle.plane.specs.Members.{Member}
-use Rattle.table.specs.Table.{Checked, passed, refused, checkTable}
+use Rattle.lent.specs.Stages.{Answer, value, refused, andThen}
+use Rattle.table.specs.Table.{frameEdges, checkTable}
 use Rattle.table.specs.Sets.{chosen}
-use Rattle.owners.specs.Judging.{Judged, carried, notCarried, code, judge}
+use Rattle.owners.specs.Judging.{judge}
+use Rattle.owners.specs.Owners.{stageOf}
 
 -- The point (x, y).
 abbrev pub at : ℕ → ℕ → Point
@@ -39,23 +41,14 @@ pub data Example : Type 0 where
   polygon : Member → Example
   table : List Triangle → Example
 
--- Its answer: a member is carried by so many triangles with this double area; or a refusal with its number and item; or a table passes.
-pub data Answer : Type 0 where
-  carriedBy : (triangles : ℕ) (area : ℤ) → Answer
-  refusal : (number item : ℕ) → Answer
-  sound : Answer
+-- What it shows where it is not refused: the member, polygon 1, is carried by so many triangles with this double area; the table passes.
+pub data Shown : Type 0 where
+  carriedBy : (triangles : ℕ) (area : ℤ) → Shown
+  sound : Shown
 
-abbrev pub ofJudged : Judged → Answer
-ofJudged (carried s) = carriedBy (length (chosen strips s)) (sum double (chosen strips s))
-ofJudged notCarried = refusal (code notCarried) 1
-
-abbrev pub ofChecked : Checked → Answer
-ofChecked passed = sound
-ofChecked (refused number item) = refusal number item
-
-abbrev pub answer : Example → Answer
-answer (polygon m) = ofJudged (judge strips m)
-answer (table t) = ofChecked (checkTable t)
+abbrev pub answer : Example → Answer Shown
+answer (polygon m) = andThen (stageOf 1 (judge strips m)) (λ s. value (carriedBy (length (chosen strips s)) (sum double (chosen strips s))))
+answer (table t) = andThen (checkTable (frameEdges t) t) (λ _. value sound)
 
 -- The strip table itself, which passes the three rules, and examples 1 to 10.
 abbrev pub rectangle : Member
@@ -76,17 +69,17 @@ examples =
     ∷ table again
     ∷ []
 
-abbrev pub answers : List Answer
+abbrev pub answers : List (Answer Shown)
 answers =
-    sound
-    ∷ carriedBy 4 (pos 32)
-    ∷ refusal 20 1
-    ∷ carriedBy 1 (pos 8)
-    ∷ refusal 20 1
-    ∷ refusal 20 1
-    ∷ carriedBy 2 (pos 16)
-    ∷ carriedBy 0 (pos 0)
-    ∷ refusal 20 1
-    ∷ refusal 12 0
-    ∷ refusal 11 9
+    value sound
+    ∷ value (carriedBy 4 (pos 32))
+    ∷ refused 20 1
+    ∷ value (carriedBy 1 (pos 8))
+    ∷ refused 20 1
+    ∷ refused 20 1
+    ∷ value (carriedBy 2 (pos 16))
+    ∷ value (carriedBy 0 (pos 0))
+    ∷ refused 20 1
+    ∷ refused 12 0
+    ∷ refused 11 9
     ∷ []

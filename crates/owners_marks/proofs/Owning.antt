@@ -3,15 +3,15 @@
 use mathlib.Core.Path.{_≡_, refl, ap, ap₂, _∙_}
 use mathlib.Core.Bool.{Bool, true, false}
 use mathlib.Core.List.{List, [], _∷_, _++_}
-use Prim.Native.Nat.{ℕ, zero, suc, _+_, _*_, _/_, _%_, _^_, _≤_, _<_}
+use Prim.Native.Nat.{ℕ, zero, suc, _+_, _*_, _/_, _%_, _^_, _<_}
 use native.Mathlib.Nat.{pow-suc}
 use native.Mathlib.Numerals.{add-one}
 use native.Mathlib.Omega.{arith}
-use lib.ListN.{length, getD, set, take, drop, replicate, length-replicate, getD-replicate, List·getD-eq-default}
+use lib.ListN.{length, getD, set, take, drop, replicate, getD-replicate}
 use Rattle.whole.specs.Sums.{All, bit}
-use Rattle.owners_marks.specs.Marks.{withMarks, ownerSets}
-use Rattle.owners_marks.specs.Marking.{marked}
-use Rattle.owners_marks.proofs.Bits.{digit-zero, digit-suc, digit-none}
+use Rattle.owners_marks.specs.Sets.{withMarks, ownerSets, marked}
+use Rattle.owners_marks.proofs.Bits.{digit-zero, digit-suc, digit-none, lowest, rest}
+use Rattle.owners_marks.proofs.Owners.{length-owner-sets}
 
 -- ---- the marks of one more polygon
 fits : (b : Bool) (k x : ℕ) → x < 2 ^ k → x + bit b * 2 ^ k < 2 ^ (k + 1)
@@ -67,17 +67,6 @@ pub owner-sets-more : (n : ℕ) (l : List (List Bool)) (s : List Bool) → owner
 owner-sets-more n [] s = with-marks-none n s
 owner-sets-more n (r ∷ l) s = ap (withMarks r) (owner-sets-more n l s) ∙ with-marks-marked (length l) r s (ownerSets n l)
 
-length-with-marks : (n : ℕ) (s : List Bool) (l : List ℕ) → length s ≡ n → length l ≡ n → length (withMarks s l) ≡ n
-length-with-marks n [] l h w = h
-length-with-marks n (b ∷ s) [] h w = w
-length-with-marks zero (b ∷ s) (x ∷ l) h w = absurd (omega arith)
-length-with-marks (suc n) (b ∷ s) (x ∷ l) h w = ap suc (length-with-marks n s l (omega arith) (omega arith))
-
--- One set for each triangle.
-pub length-owner-sets : (n : ℕ) (l : List (List Bool)) → All (λ s. length s ≡ n) l → length (ownerSets n l) ≡ n
-length-owner-sets n [] h = length-replicate n 0
-length-owner-sets n (s ∷ l) h = length-with-marks n s (ownerSets n l) (h .0) (length-owner-sets n l (h .1))
-
 none-below : (n : ℕ) → All (λ x. x < 2 ^ 0) (replicate n 0)
 none-below zero = tt
 none-below (suc n) = (omega arith, none-below n)
@@ -103,14 +92,6 @@ at-with-marks t (b ∷ s) [] h w = absurd (omega arith)
 at-with-marks zero (b ∷ s) (x ∷ l) h w = refl
 at-with-marks (suc t) (b ∷ s) (x ∷ l) h w = at-with-marks t s l (omega arith) (omega arith)
 
-lowest : (b : Bool) (x : ℕ) → (bit b + 2 * x) % 2 ≡ bit b
-lowest true x = omega arith
-lowest false x = omega arith
-
-rest : (b : Bool) (x : ℕ) → (bit b + 2 * x) / 2 ≡ x
-rest true x = omega arith
-rest false x = omega arith
-
 -- Bit k, counted from 0, of a triangle's set tells whether the polygon of number k + 1 has the triangle; it is 0 where there is no such polygon.
 pub bit-stands : (n : ℕ) (l : List (List Bool)) → All (λ s. length s ≡ n) l → (k t : ℕ) → t < n → getD (ownerSets n l) t 0 / 2 ^ k % 2 ≡ bit (getD (getD l k []) t false)
 bit-stands n [] h k t w = rw (getD-replicate {A = ℕ} n t 0 0 w) (digit-none k)
@@ -120,6 +101,3 @@ bit-stands n (s ∷ l) h zero t w =
 bit-stands n (s ∷ l) h (suc k) t w =
     let e = at-with-marks t s (ownerSets n l) (rw (h .0) w) (rw (length-owner-sets n l (h .1)) w) in
     rw e (digit-suc (bit (getD s t false) + 2 * getD (ownerSets n l) t 0) k ∙ rw (rest (getD s t false) (getD (ownerSets n l) t 0)) (bit-stands n l (h .1) k t w))
-
-pub no-bit-beyond : (n : ℕ) (l : List (List Bool)) → All (λ s. length s ≡ n) l → (k t : ℕ) → length l ≤ k → t < n → getD (ownerSets n l) t 0 / 2 ^ k % 2 ≡ 0
-no-bit-beyond n l h k t b w = bit-stands n l h k t w ∙ ap (λ (s : List Bool). bit (getD s t false)) (List·getD-eq-default l [] {n = k} b)

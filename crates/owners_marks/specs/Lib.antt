@@ -1,3 +1,4 @@
--- The owners of a triangle as one 64-bit set.
+-- The owners of a triangle, by number; and as one 64-bit set.
 pub mod Marks
-pub mod Marking
+pub mod Listed
+pub mod Sets

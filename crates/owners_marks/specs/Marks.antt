@@ -1,28 +1,21 @@
--- The owners of a triangle fit in one 64-bit set: a number whose bit k-1 stands for polygon k.
+-- The owners of a triangle: the numbers of the polygons that have it, in ascending order. There may be any number of polygons.
 use mathlib.Core.Bool.{Bool, cond}
 use mathlib.Core.List.{List, [], _∷_}
-use Prim.Native.Nat.{ℕ, zero, suc, _+_, _*_, _/_, _%_}
-use lib.Dec.{eqb}
+use Prim.Native.Nat.{ℕ, suc, _+_, _-_, _^_}
 use lib.ListN.{replicate}
-use Rattle.whole.specs.Sums.{bit}
 use Rattle.owners_marks.specs.declared.Standing.{Standing}
 use Rattle.owners_marks.specs.declared.Standing.the-variants.{Gap, Single, Overlap}
 
--- The marks of one more polygon, before all others: they become the lowest bits.
-abbrev pub withMarks : List Bool → List ℕ → List ℕ
-withMarks [] l = []
-withMarks (b ∷ s) [] = []
-withMarks (b ∷ s) (x ∷ l) = (bit b + 2 * x) ∷ withMarks s l
+-- Polygon k, before all others, is an owner of each triangle that is marked.
+abbrev pub withOwner : ℕ → List Bool → List (List ℕ) → List (List ℕ)
+withOwner k [] l = []
+withOwner k (b ∷ s) [] = []
+withOwner k (b ∷ s) (o ∷ l) = cond b (k ∷ o) o ∷ withOwner k s l
 
--- The owners of each of n triangles, in table order, by the sets of the polygons in number order.
-abbrev pub ownerSets : ℕ → List (List Bool) → List ℕ
-ownerSets n [] = replicate n 0
-ownerSets n (s ∷ l) = withMarks s (ownerSets n l)
-
--- The numbers of the polygons in a set, in ascending order: k + 1 for each bit k among the lowest n.
-abbrev pub ownersIn : ℕ → ℕ → ℕ → List ℕ
-ownersIn zero k set = []
-ownersIn (suc n) k set = cond (eqb (set % 2) 1) (suc k ∷ ownersIn n (suc k) (set / 2)) (ownersIn n (suc k) (set / 2))
+-- The owners of each of n triangles, in table order, by the sets of the polygons in number order, the first being number k.
+abbrev pub ownersFrom : ℕ → ℕ → List (List Bool) → List (List ℕ)
+ownersFrom n k [] = replicate n []
+ownersFrom n k (s ∷ l) = withOwner k s (ownersFrom n (suc k) l)
 
 -- A triangle with no owner is a gap, with two or more an overlap; the smallest owner number goes with the answer.
 abbrev pub standingBy : List ℕ → Standing
@@ -30,5 +23,7 @@ standingBy [] = Gap
 standingBy (k ∷ []) = Single k
 standingBy (k ∷ j ∷ l) = Overlap k
 
-unfoldable pub standingOf : ℕ → Standing
-standingOf set = standingBy (ownersIn 64 0 set)
+-- The owners as one number, whose bit k-1 stands for polygon k.
+abbrev pub setOf : List ℕ → ℕ
+setOf [] = 0
+setOf (k ∷ l) = 2 ^ (k - 1) + setOf l

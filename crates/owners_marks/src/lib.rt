@@ -3,8 +3,7 @@ ghost use mathlib.Core.Path.{_≡_};
 ghost use Prim.Native.Nat.{_+_, _*_, _^_, _<_};
 ghost use lib.ListN.{length};
 ghost use Rattle.whole.specs.Sums.{All, bit};
-ghost use Rattle.owners_marks.specs.Marks.{standingOf};
-ghost use Rattle.owners_marks.specs.Marking.{marked};
+ghost use Rattle.owners_marks.specs.Sets.{marked, standingOf};
 
 // How a triangle stands: a gap, of a single owner, or an overlap with its smallest owner number.
 pub enum Standing {

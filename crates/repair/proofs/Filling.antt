@@ -1,30 +1,49 @@
 -- A list filled place by place, the numbers of settled sets, and the number across a side. Assumes nothing.
 use mathlib.Core.Path.{_≡_, refl, sym, _∙_, ap, subst}
 use mathlib.Core.Bool.{Bool, true, false, cond}
-use mathlib.Core.List.{List, [], _∷_}
+use mathlib.Core.List.{List, [], _∷_, map}
 use Prim.Native.Nat.{ℕ, zero, suc, _+_, _-_, _/_, _≤_, _<_}
 use native.Mathlib.Omega.{arith}
 use native.Mathlib.Decide.{ℕ-discrete}
 use lib.Dec.{leb}
 use lib.ListN.{length, getD, set, length-set}
 use lib.Seq.{getD-set-same, getD-set-other}
-use Rattle.owners_marks.specs.Marks.{standingOf}
+use Rattle.whole.specs.Sums.{All}
+use Rattle.owners_marks.specs.Marks.{standingBy}
+use Rattle.owners_marks.specs.Sets.{ownersOf, standingOf}
+use Rattle.owners_marks.proofs.Bits.{owners-small}
 use Rattle.repair.specs.Repair.{settledBy, settled, greater, beyond}
 use Rattle.repair.specs.Giving.{Filled}
 use Rattle.repair.proofs.Largest.{greater-left, greater-right}
 
--- A list whose first t places follow f, with one more set as f says.
-pub set-next : (f : ℕ → ℕ) (l : List ℕ) (t x : ℕ) → t < length l → x ≡ f t → ((i : ℕ) → i < t → getD l i 0 ≡ f i) → (i : ℕ) → i < suc t → getD (set l t x) i 0 ≡ f i
-set-next f l t x h e b i p = go (ℕ-discrete i t)
+-- What holds of the places before t and of t holds of the places before t + 1.
+pub one-further : (P : ℕ → Type 0) (t : ℕ) → ((i : ℕ) → i < t → P i) → P t → (i : ℕ) → i < t + 1 → P i
+one-further P t h z i w = go (ℕ-discrete i t)
   where
-    go : Dec (i ≡ t) → getD (set l t x) i 0 ≡ f i
-    go (yes s) = rw s (getD-set-same l t x 0 h ∙ e)
-    go (no s) = getD-set-other l t i x 0 s ∙ b i (omega arith)
+    go : Dec (i ≡ t) → P i
+    go (yes e) = subst P (sym e) z
+    go (no e) = h i (omega arith)
 
-pub settled-at : (sets : List ℕ) (i : ℕ) → i < length sets → getD (settled sets) i 0 ≡ settledBy (standingOf (getD sets i 0))
-settled-at [] i h = absurd (omega arith)
-settled-at (s ∷ l) zero h = refl
-settled-at (s ∷ l) (suc i) h = settled-at l i (omega arith)
+-- A list whose first t places follow f, with one more set as f says.
+pub set-next : (f : ℕ → ℕ) (l : List ℕ) (t x : ℕ) → t < length l → x ≡ f t → ((i : ℕ) → i < t → getD l i 0 ≡ f i) → (i : ℕ) → i < t + 1 → getD (set l t x) i 0 ≡ f i
+set-next f l t x h e b = one-further (λ i. getD (set l t x) i 0 ≡ f i) t (λ i w. getD-set-other l t i x 0 (λ s. omega arith) ∙ b i w) (getD-set-same l t x 0 h ∙ e)
+
+-- The settled number of a set is that of the owners in it,
+pub settled-set : (sets : List ℕ) (i : ℕ) → i < length sets → getD (settled (map ownersOf sets)) i 0 ≡ settledBy (standingOf (getD sets i 0))
+unfolding standingOf
+settled-set [] i h = absurd (omega arith)
+settled-set (s ∷ l) zero h = refl
+settled-set (s ∷ l) (suc i) h = settled-set l i (omega arith)
+
+-- and is at most 64.
+pub settled-small : (set : ℕ) → settledBy (standingOf set) ≤ 64
+unfolding standingOf
+settled-small set = go (ownersOf set) (owners-small set)
+  where
+    go : (l : List ℕ) → All (λ x. x ≤ 64) l → settledBy (standingBy l) ≤ 64
+    go [] h = omega arith
+    go (k ∷ []) h = h .0
+    go (k ∷ j ∷ l) h = h .0
 
 -- ---- a group given to one owner
 pub filled-none : (group : List ℕ) (first owner : ℕ) (owners : List ℕ) → Filled group first first owner owners owners

@@ -2,26 +2,32 @@
 -- have t, and what is met with t is closed again, so that the triangles met since are the region of t. Assumes nothing.
 use mathlib.Core.Path.{_≡_, refl, sym, _∙_, ap, subst}
 use mathlib.Core.Logic.{_⊎_, inl, inr}
-use mathlib.Core.Bool.{Bool, true, false, cond, true≢false, false≢true}
-use mathlib.Core.List.{List, _∷_, _++_, map}
+use mathlib.Core.Bool.{Bool, true, false, cond}
+use mathlib.Core.List.{List, [], _∷_, _++_, map}
 use mathlib.Core.Option.{Option, none, some}
 use Prim.Native.Nat.{ℕ, zero, suc, _+_, _*_, _/_, _≤_, _<_}
 use native.Mathlib.Omega.{arith}
 use native.Mathlib.Decide.{ℕ-discrete, decLe}
 use borrow.Author.Tests.{eqb-true, eqb-false, eq-eqb}
 use lib.Dec.{eqb}
-use lib.ListN.{length, getD, take, replicate, length-replicate, length-append}
+use lib.ListN.{length, getD, take, replicate, length-map, length-replicate, length-append}
 use lib.Seq.{ext-getD, take-at, length-take-le}
 use Rattle.whole.specs.Sums.{every}
-use Rattle.repair_regions.specs.Regions.{from, gap, region, Joined, self, step}
+use Rattle.lent.specs.Stages.{value, refused}
+use Rattle.table.specs.Table.{firstFault}
+use Rattle.table.specs.Sides.{itemOf}
+use Rattle.owners_marks.specs.Sets.{ownersOf}
+use Rattle.repair_regions.specs.Regions.{gap, region, Joined, self, step}
 use Rattle.repair_regions.specs.Spreading.{Paired, marked, Meeting, Grown, Fresh, Spread}
 use Rattle.repair_regions.proofs.Regions.{length-map-from, map-from-at, joined-sym, region-has, region-same, not-both}
 use Rattle.repair_regions.proofs.Spreading.{in-table, in-region}
-use Rattle.repair.specs.Repair.{settled, greater, beyond, largest, ownerOf, repaired}
-use Rattle.repair.specs.Giving.{RepairedTo}
-use Rattle.repair.specs.Giving.{Best, Filled, State, Further}
+use Rattle.repair.specs.declared.Repaired.the-variants.{Done, Refused}
+use Rattle.repair.specs.Repair.{settled, Choice, greater, beyond, largest, ownerOf, numbersGiven, ungiven, repaired}
+use Rattle.repair.specs.Choosing.{FoundAcross}
+use Rattle.repair.specs.Giving.{Best, Filled, State, Further, ownersLeft, RepairedTo}
 use Rattle.repair.proofs.Largest.{greater-left, greater-right, greater-one, largest-above, largest-found}
-use Rattle.repair.proofs.OneOwner.{length-settled, every-zero, every-not, answer, repaired-is}
+use Rattle.repair.proofs.Filling.{one-further}
+use Rattle.repair.proofs.OneOwner.{length-settled, every-zero, every-not, NoZero, FirstZero, zero-from, same-first, answer, repaired-by}
 
 -- A test that is not passed.
 failed : (b : Bool) → (b ≡ true → ⊥) → b ≡ false
@@ -41,12 +47,21 @@ all-zero l h = go (every (eqb 0) l) refl
 pub one-not-zero : (l : List ℕ) (i : ℕ) → (getD l i 0 ≡ 0 → ⊥) → every (eqb 0) l ≡ false
 one-not-zero l i h = failed (every (eqb 0) l) (λ e. h (every-zero l e i))
 
-pub zero-next : (l : List ℕ) (t : ℕ) → ((i : ℕ) → i < t → getD l i 0 ≡ 0) → getD l t 0 ≡ 0 → (i : ℕ) → i < t + 1 → getD l i 0 ≡ 0
-zero-next l t h z i p = go (ℕ-discrete i t)
+-- The first 0 stands at a place where it is 0 and none before it is,
+pub zero-found : (l : List ℕ) (t : ℕ) → t < length l → getD l t 0 ≡ 0 → NoZero l t → t + 1 ≡ itemOf (firstFault ungiven [] l)
+zero-found l t w z h = go (firstFault ungiven [] l) (zero-from [] l)
   where
-    go : Dec (i ≡ t) → getD l i 0 ≡ 0
-    go (yes e) = rw e z
-    go (no e) = h i (omega arith)
+    go : (r : Option ℕ) → FirstZero 0 l r → t + 1 ≡ itemOf r
+    go none f = absurd (f t w z)
+    go (some n) (i, p, v, y, f) = omega (arith, same-first (λ u. getD l u 0 ≡ 0) t i z y h f)
+
+-- and there is none where none is.
+pub zero-nowhere : (l : List ℕ) → NoZero l (length l) → 0 ≡ itemOf (firstFault ungiven [] l)
+zero-nowhere l h = go (firstFault ungiven [] l) (zero-from [] l)
+  where
+    go : (r : Option ℕ) → FirstZero 0 l r → 0 ≡ itemOf r
+    go none f = refl
+    go (some n) (i, p, v, y, f) = absurd (h i v y)
 
 -- ---- the largest number across the sides of a group
 -- What holds of two numbers holds of the greater.
@@ -133,10 +148,10 @@ met-joined {numbers = numbers} {met = met} m s (step k o j e g z) h =
     let b = m .by (k / 3) (met-joined m s j h) in
     subst (λ u. getD met u false ≡ true) z (s (b .0) (b .1) k (sym (b .2)) .at o e (eqb-true (getD numbers (o / 3) 0) 0 g))
 
-module _ {opposite numbers : List ℕ} {met met' : List Bool} {group group' owners owners' : List ℕ} {first n owner : ℕ} (pairs : Paired opposite (length numbers))
-    (before : State opposite numbers met group first owners) (t : ℕ) (within : t < length numbers) (open-gap : getD numbers t 0 ≡ 0) (free : getD met t false ≡ false)
+module _ {choice : Choice} {opposite numbers : List ℕ} {met met' : List Bool} {group group' owners : List ℕ} {first n : ℕ} (pairs : Paired opposite (length numbers))
+    (before : State choice opposite numbers met group first owners) (t : ℕ) (within : t < length numbers) (open-gap : getD numbers t 0 ≡ 0) (free : getD met t false ≡ false)
     (grown : Grown numbers met group first met' group' n) (spread : Spread opposite numbers met' group' n) (fresh : Fresh opposite numbers met met' t)
-    (taken : getD met' t false ≡ true) (best : Best opposite numbers group' first n owner) (filled : Filled group' first n owner owners owners') where
+    (taken : getD met' t false ≡ true) where
   is-gap : gap opposite numbers t ≡ true
   is-gap = eq-eqb (getD numbers t 0) 0 open-gap
 
@@ -159,8 +174,8 @@ module _ {opposite numbers : List ℕ} {met met' : List Bool} {group group' owne
               absurd (not-both (getD met t false) free (met-joined (before .meeting) (before .spread) (joined-sym opposite numbers pairs is-gap joined) m))
 
   -- The largest number across the sides of what stands there since is the region's.
-  is-largest : owner ≡ largest opposite numbers (region opposite numbers t)
-  is-largest = omega (arith, low (best .found), high (largest-found opposite numbers (region opposite numbers t)))
+  pub is-largest : {owner : ℕ} → Best opposite numbers group' first n owner → owner ≡ largest opposite numbers (region opposite numbers t)
+  is-largest {owner} best = omega (arith, low (best .found), high (largest-found opposite numbers (region opposite numbers t)))
     where
       low : Found opposite numbers group' first n owner → owner ≤ largest opposite numbers (region opposite numbers t)
       low (inl z) = omega arith
@@ -169,35 +184,34 @@ module _ {opposite numbers : List ℕ} {met met' : List Bool} {group group' owne
           let r = subst (λ x. getD (region opposite numbers t) x false ≡ true) (sym (s .4)) (in-region t grown fresh (s .0) (s .2) (s .3)) in
           omega (arith, largest-above opposite numbers (region opposite numbers t) (s .1) k r, s .5)
 
-      high : (largest opposite numbers (region opposite numbers t) ≡ 0)
-          ⊎ (k : ℕ) × (k < length opposite) × (getD (region opposite numbers t) (k / 3) false ≡ true) × (across opposite numbers k ≡ largest opposite numbers (region opposite numbers t))
-          → largest opposite numbers (region opposite numbers t) ≤ owner
+      high : FoundAcross opposite numbers (region opposite numbers t) (largest opposite numbers (region opposite numbers t)) → largest opposite numbers (region opposite numbers t) ≤ owner
       high (inl z) = omega arith
       high (inr s) = let j = since (s .0 / 3) (s .2) in omega (arith, best .above (j .0) (s .0) (j .1) (j .2) (sym (j .3)), s .3)
 
-  -- A triangle that was met has its owner, and one of the region gets the region's.
-  is-given : (u : ℕ) → (getD met u false ≡ true) ⊎ (getD (region opposite numbers t) u false ≡ true) → getD owners' u 0 ≡ largest opposite numbers (region opposite numbers u)
-  is-given u (inl m) = filled .others u (λ j p q e. not-both (getD met u false) (subst (λ x. getD met x false ≡ false) e (grown .fresh j p q)) m) ∙ before .given u m
-  is-given u (inr r) =
-      let j = since u r in
-      subst (λ x. getD owners' x 0 ≡ owner) (j .3) (filled .given (j .0) (j .1) (j .2))
-      ∙ is-largest
-      ∙ ap (largest opposite numbers) (sym (region-same opposite numbers pairs t u within is-gap r))
+  module _ {owner : ℕ} {owners' : List ℕ} (chosen : owner ≡ choice numbers (region opposite numbers t)) (filled : Filled group' first n owner owners owners') where
+    -- A triangle that was met has its owner, and one of the region gets the region's.
+    is-given : (u : ℕ) → (getD met u false ≡ true) ⊎ (getD (region opposite numbers t) u false ≡ true) → getD owners' u 0 ≡ choice numbers (region opposite numbers u)
+    is-given u (inl m) = filled .others u (λ j p q e. not-both (getD met u false) (subst (λ x. getD met x false ≡ false) e (grown .fresh j p q)) m) ∙ before .given u m
+    is-given u (inr r) =
+        let j = since u r in
+        subst (λ x. getD owners' x 0 ≡ owner) (j .3) (filled .given (j .0) (j .1) (j .2))
+        ∙ chosen
+        ∙ ap (choice numbers) (sym (region-same opposite numbers pairs t u within is-gap r))
 
-  still-plain : (u : ℕ) → getD met' u false ≡ false → getD owners' u 0 ≡ getD numbers u 0
-  still-plain u h =
-      filled .others u (λ j p q e. not-both (getD met' u false) h (subst (λ x. getD met' x false ≡ true) e (grown .meeting .own j q)))
-      ∙ before .plain u (failed (getD met u false) (λ e. not-both (getD met' u false) h (grown .still u e)))
+    still-plain : (u : ℕ) → getD met' u false ≡ false → getD owners' u 0 ≡ getD numbers u 0
+    still-plain u h =
+        filled .others u (λ j p q e. not-both (getD met' u false) h (subst (λ x. getD met' x false ≡ true) e (grown .meeting .own j q)))
+        ∙ before .plain u (failed (getD met u false) (λ e. not-both (getD met' u false) h (grown .still u e)))
 
-  -- The region of the gap t is met, and given to the largest number across its sides.
-  pub region-given : State opposite numbers met' group' n owners'
-  region-given = record {
-    meeting = grown .meeting;
-    spread = spread;
-    as-many = filled .as-many ∙ before .as-many;
-    given = λ u h. is-given u (fresh .since u h);
-    plain = still-plain;
-  }
+    -- The region of the gap t is met, and given to the number chosen for it.
+    pub region-given : State choice opposite numbers met' group' n owners'
+    region-given = record {
+      meeting = grown .meeting;
+      spread = spread;
+      as-many = filled .as-many ∙ before .as-many;
+      given = λ u h. is-given u (fresh .since u h);
+      plain = still-plain;
+    }
 
 -- ---- all regions given
 unmarked-at : (n t : ℕ) → getD (replicate n false) t false ≡ false
@@ -210,9 +224,9 @@ marked-none zero = refl
 marked-none (suc n) = omega (arith, marked-none n)
 
 -- Nothing is met: each triangle has its number.
-pub none-given : (opposite numbers : List ℕ) {met : List Bool} {group owners : List ℕ} → met ≡ replicate (length numbers) false → length group ≡ length numbers → owners ≡ numbers
-    → State opposite numbers met group 0 owners
-none-given opposite numbers {met} {group} {owners} e r o = record {
+pub none-given : (choice : Choice) (opposite numbers : List ℕ) {met : List Bool} {group owners : List ℕ} → met ≡ replicate (length numbers) false → length group ≡ length numbers → owners ≡ numbers
+    → State choice opposite numbers met group 0 owners
+none-given choice opposite numbers {met} {group} {owners} e r o = record {
   meeting = record {
     marks = ap length e ∙ length-replicate (length numbers) false;
     room = r;
@@ -235,36 +249,32 @@ abbrev pub MetTo : List ℕ → List Bool → ℕ → Type 0
 MetTo numbers met t = (u : ℕ) → u < t → getD numbers u 0 ≡ 0 → getD met u false ≡ true
 
 pub met-next : {numbers : List ℕ} {met met' : List Bool} {t : ℕ} → MetTo numbers met t → Further numbers met met' t → MetTo numbers met' (t + 1)
-met-next {numbers} {met} {met'} {t} m f u h z = go (ℕ-discrete u t)
-  where
-    go : Dec (u ≡ t) → getD met' u false ≡ true
-    go (yes e) = rw e (f .there (subst (λ x. getD numbers x 0 ≡ 0) e z))
-    go (no e) = f .still u (m u (omega arith) z)
+met-next {numbers} {met} {met'} {t} m f = one-further (λ u. getD numbers u 0 ≡ 0 → getD met' u false ≡ true) t (λ u h z. f .still u (m u h z)) (f .there)
 
 -- With all gaps met, each triangle has its owner after repair.
-pub all-given : {opposite numbers : List ℕ} {met : List Bool} {group : List ℕ} {n : ℕ} {owners : List ℕ} → State opposite numbers met group n owners → MetTo numbers met (length numbers)
-    → owners ≡ map (ownerOf opposite numbers) (from 0 (length numbers))
-all-given {opposite} {numbers} {met} {owners = owners} s m =
-    ext-getD 0 owners (map (ownerOf opposite numbers) (from 0 (length numbers))) (s .as-many ∙ sym (length-map-from (ownerOf opposite numbers) 0 (length numbers)))
-    (λ u h. at u (omega (arith, s .as-many)) ∙ sym (map-from-at (ownerOf opposite numbers) (length numbers) u 0 (omega (arith, s .as-many))))
+pub all-given : {choice : Choice} {opposite numbers : List ℕ} {met : List Bool} {group : List ℕ} {n : ℕ} {owners : List ℕ} → State choice opposite numbers met group n owners
+    → MetTo numbers met (length numbers) → owners ≡ numbersGiven choice opposite numbers
+all-given {choice} {opposite} {numbers} {met} {owners = owners} s m =
+    ext-getD 0 owners (numbersGiven choice opposite numbers) (s .as-many ∙ sym (length-map-from (ownerOf choice opposite numbers) 0 (length numbers)))
+    (λ u h. at u (omega (arith, s .as-many)) ∙ sym (map-from-at (ownerOf choice opposite numbers) (length numbers) u 0 (omega (arith, s .as-many))))
   where
-    by-gap : (u : ℕ) → u < length numbers → (b : Bool) → gap opposite numbers u ≡ b → getD owners u 0 ≡ cond b (largest opposite numbers (region opposite numbers u)) (getD numbers u 0)
+    by-gap : (u : ℕ) → u < length numbers → (b : Bool) → gap opposite numbers u ≡ b → getD owners u 0 ≡ cond b (choice numbers (region opposite numbers u)) (getD numbers u 0)
     by-gap u h true e = s .given u (m u h (eqb-true (getD numbers u 0) 0 e))
     by-gap u h false e = s .plain u (failed (getD met u false) (λ m. eqb-false (getD numbers u 0) 0 e (s .meeting .gaps u m)))
 
-    at : (u : ℕ) → u < length numbers → getD owners u 0 ≡ ownerOf opposite numbers u
+    at : (u : ℕ) → u < length numbers → getD owners u 0 ≡ ownerOf choice opposite numbers u
     at u h = by-gap u h (gap opposite numbers u) refl
 
--- ---- the two answers
+-- ---- the answers
 -- The settled numbers of the sets, laid down at the front of a list.
-module _ (sets l rest : List ℕ) (s : l ≡ settled sets) where
+module _ (sets l rest : List ℕ) (s : l ≡ settled (map ownersOf sets)) where
   length-laid : length l ≡ length sets
-  length-laid = ap length s ∙ length-settled sets
+  length-laid = ap length s ∙ length-settled (map ownersOf sets) ∙ length-map sets ownersOf
 
   pub laid-room : length sets ≤ length (l ++ rest)
   laid-room = omega (arith, length-append l rest, length-laid)
 
-  pub laid-front : take (length sets) (l ++ rest) ≡ settled sets
+  pub laid-front : take (length sets) (l ++ rest) ≡ settled (map ownersOf sets)
   laid-front = take-at l rest (length sets) length-laid ∙ s
 
   pub length-front : length (take (length sets) (l ++ rest)) ≡ length sets
@@ -276,26 +286,40 @@ unmarked-front zero m h = refl
 unmarked-front (suc n) zero h = absurd (omega arith)
 unmarked-front (suc n) (suc m) h = ap (λ l. false ∷ l) (unmarked-front n m (omega arith))
 
--- Repair has no answer where all settled numbers are 0, and else the owners of all triangles.
-module _ (opposite sets : List ℕ) {numbers : List ℕ} (s : numbers ≡ settled sets) where
-  -- Repair that can't be done leaves the lent list; repair that is done leaves the owner numbers.
-  pub repaired-none : {lent : List ℕ} → every (eqb 0) numbers ≡ true → RepairedTo (repaired opposite sets) lent false lent
-  repaired-none {lent} e =
-      subst (λ o. RepairedTo o lent false lent) (sym (repaired-is opposite sets ∙ ap (answer opposite sets) (ap (every (eqb 0)) (sym s) ∙ e)))
-      (record { done = refl; left = refl })
+-- What repair comes to where the settled numbers are these.
+module _ (choice : Choice) (opposite : List ℕ) (owners : List (List ℕ)) {numbers : List ℕ} (s : numbers ≡ settled owners) where
+  -- Where all are 0, it is refused with 30 and leaves the lent list.
+  pub nobody-owns : {lent : List ℕ} → every (eqb 0) numbers ≡ true → RepairedTo choice opposite owners lent (Refused 30 0) lent
+  nobody-owns {lent} e =
+      let f = ap (every (eqb 0)) (sym s) ∙ e in
+      record { answer = sym (repaired-by choice opposite owners f refl); left = sym (ap (λ b. cond b lent (numbersGiven choice opposite (settled owners))) f) }
 
-  pub repaired-all : {lent owners : List ℕ} → every (eqb 0) numbers ≡ false → owners ≡ map (ownerOf opposite numbers) (from 0 (length numbers)) → RepairedTo (repaired opposite sets) lent true owners
-  repaired-all {lent} {owners} e o =
-      subst (λ o. RepairedTo o lent true owners)
-      (ap some (o ∙ ap (λ l. map (ownerOf opposite l) (from 0 (length l))) s ∙ ap (λ n. map (ownerOf opposite (settled sets)) (from 0 n)) (length-settled sets))
-      ∙ sym (repaired-is opposite sets ∙ ap (answer opposite sets) (ap (every (eqb 0)) (sym s) ∙ e)))
-      (record { done = refl; left = refl })
+  -- Else it leaves the numbers given, of which t is the place of the first 0,
+  module _ {given : List ℕ} (e : every (eqb 0) numbers ≡ false) (g : given ≡ numbersGiven choice opposite numbers) {t : ℕ} (first : t ≡ itemOf (firstFault ungiven [] given)) where
+    some-owns : every (eqb 0) (settled owners) ≡ false
+    some-owns = ap (every (eqb 0)) (sym s) ∙ e
 
--- ---- what repair answered tells what it comes to
-pub answered-true : (owners : Option (List ℕ)) {before after : List ℕ} {r : Bool} → RepairedTo owners before r after → r ≡ true → owners ≡ some after
-answered-true none p e = absurd (false≢true (sym (p .done) ∙ e))
-answered-true (some l) p e = ap some (sym (p .left))
+    are : given ≡ numbersGiven choice opposite (settled owners)
+    are = g ∙ ap (numbersGiven choice opposite) s
 
-pub answered-false : (owners : Option (List ℕ)) {before after : List ℕ} {r : Bool} → RepairedTo owners before r after → r ≡ false → owners ≡ none
-answered-false none p e = refl
-answered-false (some l) p e = absurd (true≢false (sym (p .done) ∙ e))
+    are-left : (lent : List ℕ) → given ≡ ownersLeft choice opposite owners lent
+    are-left lent = are ∙ sym (ap (λ b. cond b lent (numbersGiven choice opposite (settled owners))) some-owns)
+
+    by-fault : (r : Option ℕ) → firstFault ungiven [] given ≡ r → repaired choice opposite owners ≡ answer choice opposite owners false r
+    by-fault r f = repaired-by choice opposite owners some-owns (ap (firstFault ungiven []) (sym are) ∙ f)
+
+    -- is refused with 31 and that place, where there is one,
+    pub not-all-given : {lent : List ℕ} → (t ≡ 0 → ⊥) → RepairedTo choice opposite owners lent (Refused 31 t) given
+    not-all-given {lent} n = go (firstFault ungiven [] given) refl
+      where
+        go : (r : Option ℕ) → firstFault ungiven [] given ≡ r → RepairedTo choice opposite owners lent (Refused 31 t) given
+        go none f = absurd (n (first ∙ ap itemOf f))
+        go (some k) f = record { answer = ap (refused 31) (first ∙ ap itemOf f) ∙ sym (by-fault (some k) f); left = are-left lent }
+
+    -- and is done where there is none.
+    pub all-are-given : {lent : List ℕ} → t ≡ 0 → RepairedTo choice opposite owners lent Done given
+    all-are-given {lent} z = go (firstFault ungiven [] given) refl (zero-from [] given)
+      where
+        go : (r : Option ℕ) → firstFault ungiven [] given ≡ r → FirstZero 0 given r → RepairedTo choice opposite owners lent Done given
+        go none f h = record { answer = ap value are ∙ sym (by-fault none f); left = are-left lent }
+        go (some k) f (i, p, w, y, h) = absurd (omega (arith, first, ap itemOf f))

@@ -1,8 +1,8 @@
--- The largest number across the sides of a group is found there, and none is above it. Assumes nothing.
+-- The largest number across the sides of a group is found there, and none is above it: it is a choice for gap regions. Assumes nothing.
 use mathlib.Core.Path.{_≡_, refl, sym, _∙_, ap, subst}
 use mathlib.Core.Logic.{_⊎_, inl, inr}
 use mathlib.Core.Bool.{Bool, true, false, cond}
-use mathlib.Core.List.{List, [], _∷_, map}
+use mathlib.Core.List.{List, _∷_, map}
 use Prim.Native.Nat.{ℕ, zero, suc, _+_, _/_, _≤_, _<_}
 use native.Mathlib.Omega.{arith}
 use native.Mathlib.Decide.{decLe}
@@ -12,6 +12,7 @@ use lib.ListN.{length, getD}
 use Rattle.whole.specs.Sums.{passing}
 use Rattle.repair_regions.specs.Regions.{from}
 use Rattle.repair.specs.Repair.{greater, greatest, beyond, largest}
+use Rattle.repair.specs.Choosing.{FoundAcross, Chooses}
 
 -- ---- the greater of two numbers
 pub greater-left : (m n : ℕ) → m ≤ greater m n
@@ -80,9 +81,14 @@ module _ (opposite numbers : List ℕ) (group : List Bool) where
   largest-above k h = above-from (λ j. getD group (j / 3) false) (λ j. beyond opposite numbers (getD opposite j 0)) 0 (length opposite) k (omega arith) (omega arith)
 
   -- which stands across one, or is 0.
-  pub largest-found : (largest opposite numbers group ≡ 0)
-      ⊎ (k : ℕ) × (k < length opposite) × (getD group (k / 3) false ≡ true) × (beyond opposite numbers (getD opposite k 0) ≡ largest opposite numbers group)
+  pub largest-found : FoundAcross opposite numbers group (largest opposite numbers group)
   largest-found = elim (found-from (λ j. getD group (j / 3) false) (λ j. beyond opposite numbers (getD opposite j 0)) 0 (length opposite)) [
     | inl z ↦ inl z
     | inr (k, l, h, e, q) ↦ inr (k, omega arith, e, q)
   ]
+
+pub largest-chooses : (opposite : List ℕ) → Chooses opposite (largest opposite)
+largest-chooses opposite = record {
+  found = largest-found opposite;
+  none = λ numbers group z k h m. omega (arith, largest-above opposite numbers group k h m);
+}

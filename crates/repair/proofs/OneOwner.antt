@@ -1,37 +1,40 @@
--- Repair gives each triangle of a table exactly one owner, as laid down, and there is one such answer only.
+-- Repair gives each triangle of a table exactly one owner, as laid down, whatever the choice for a region is; by the largest number there is one
+-- such answer only. It is refused exactly where no triangle has an owner, or a gap region has none across its sides.
 -- The idea: a gap region with nothing owned across its sides is closed under going across sides, so that in a connected table it has all
 -- triangles; where one triangle has an owner there is none such. Assumes nothing.
-use mathlib.Core.Path.{_≡_, refl, sym, _∙_, ap, subst}
+use mathlib.Core.Path.{_≡_, refl, sym, _∙_, ap, ap₂, subst}
 use mathlib.Core.Logic.{_↔_, _⊎_, inl, inr}
-use mathlib.Core.Bool.{Bool, true, false, cond}
-use mathlib.Core.List.{List, [], _∷_, map}
-use mathlib.Core.Option.{Option, none, some, Option·some-ne-none, Option·some-injective}
-use Prim.Native.Nat.{ℕ, zero, suc, _+_, _*_, _/_, _%_, _^_, _≤_, _<_}
-use native.Mathlib.Nat.{pow-suc}
+use mathlib.Core.Bool.{Bool, true, false, not, cond}
+use mathlib.Core.List.{List, [], _∷_}
+use mathlib.Core.Option.{Option, none, some}
+use Prim.Native.Nat.{ℕ, zero, suc, _+_, _*_, _/_, _≤_, _<_}
 use native.Mathlib.Omega.{arith}
 use native.Mathlib.Decide.{decLe}
 use borrow.Author.Tests.{eqb-true, eqb-false, eq-eqb, ne-eqb}
-use lib.Dec.{eqb}
+use lib.Dec.{eqb, eqb→eq, eqb-refl}
 use lib.ListN.{length, getD, length-map, List·getD-eq-default}
 use lib.Seq.{ext-getD}
 use Rattle.whole.specs.Sums.{All, Among, every, bit, count}
-use Rattle.whole.proofs.Sums.{all-at}
+use Rattle.whole.proofs.Sums.{all-at, counted}
+use Rattle.lent.specs.Stages.{Answer, value, refused, andThen, needing, faultless}
 use Rattle.plane.specs.Points.{flip, sameEdge}
 use Rattle.plane.specs.Boundaries.{sidesOf}
-use Rattle.table.specs.Table.{RuleA, RuleB, RuleC}
+use Rattle.table.specs.Table.{frameEdges, RuleA, RuleB, RuleC, firstFault}
 use Rattle.table.specs.Sets.{SetOf, chosen}
 use Rattle.table.specs.Sides.{Closed, trianglesOf}
 use Rattle.table.specs.Opposites.{opposites}
 use Rattle.table.proofs.Shares.{length-triangles, length-opposites, among-side, opposite-some, opposite-is, fewer-sides, side-count}
 use Rattle.table.proofs.Connected.{connected}
-use Rattle.owners_marks.specs.Marks.{ownersIn, standingBy, standingOf}
-use Rattle.owners_marks.proofs.Bits.{owners-above, owners-within, owners-ascending}
-use Rattle.repair_regions.specs.Regions.{from, gap, region, Joined}
+use Rattle.owners_marks.specs.Marks.{standingBy}
+use Rattle.owners_marks.specs.Listed.{Ascending, OwnersListed}
+use Rattle.owners_marks.proofs.Owners.{all-there}
+use Rattle.repair_regions.specs.Regions.{gap, region, Joined}
 use Rattle.repair_regions.specs.Spreading.{Paired}
 use Rattle.repair_regions.proofs.Regions.{map-from-at, length-map-from, joined-gap, joined-within, region-own, region-closed, region-has, region-same, region-length, not-both}
-use Rattle.repair.specs.Repair.{settledBy, settled, beyond, largest, ownerOf, repaired}
-use Rattle.repair.specs.OneOwner.{ownersOf, ownersAt, OneOwner}
-use Rattle.repair.proofs.Largest.{largest-above, largest-found}
+use Rattle.repair.specs.Repair.{settledBy, settled, Choice, beyond, largest, ownerOf, numbersGiven, ungiven, repaired}
+use Rattle.repair.specs.OneOwner.{ownersAt, FoundFor, OneOwner, LargestThere}
+use Rattle.repair.specs.Choosing.{FoundAcross, Chooses, Alone, SomeOwner, FirstAlone}
+use Rattle.repair.proofs.Largest.{largest-above, largest-chooses}
 
 -- A side that has something across it is one of the list.
 has-side : (opposite : List ℕ) (k o : ℕ) → getD opposite k 0 ≡ suc o → k < length opposite
@@ -60,7 +63,7 @@ module _ (keys : List ℕ) (n : ℕ) (whole : length keys ≡ 3 * n) (once : Rul
       side k o e = omega (arith, has-side (opposites (sidesOf (trianglesOf keys))) k o e, length-opposites keys n whole)
 
   -- A table that passes the rules is connected.
-  pub connects : RuleA (trianglesOf keys) → RuleC (trianglesOf keys) → Connects (opposites (sidesOf (trianglesOf keys))) n
+  pub connects : RuleA (trianglesOf keys) → RuleC (frameEdges (trianglesOf keys)) (trianglesOf keys) → Connects (opposites (sidesOf (trianglesOf keys))) n
   connects area framed s long spread t h m u l = go (connected (trianglesOf keys) area once framed s fits closed)
     where
       fits : SetOf (trianglesOf keys) s
@@ -83,89 +86,29 @@ module _ (keys : List ℕ) (n : ℕ) (whole : length keys ≡ 3 * n) (once : Rul
       go (inl a) = all-at (λ b. b ≡ true) false s u a (omega arith)
       go (inr a) = absurd (not-both (getD s t false) (all-at (λ b. b ≡ false) false s t a (omega arith)) m)
 
+-- ---- the settled numbers
 first-settled : (l : List ℕ) → settledBy (standingBy l) ≡ getD l 0 0
 first-settled [] = refl
 first-settled (k ∷ []) = refl
 first-settled (k ∷ j ∷ l) = refl
 
-owners-none : (n k : ℕ) → ownersIn n k 0 ≡ []
-owners-none zero k = refl
-owners-none (suc n) k = owners-none n (suc k)
-
-none-owners : (n k set : ℕ) → set < 2 ^ n → ownersIn n k set ≡ [] → set ≡ 0
-none-owners zero k set h e = omega arith
-none-owners (suc n) k set h e = go (eqb (set % 2) 1) refl (none-owners n (suc k) (set / 2) (omega (arith, pow-suc 2 n))) e
-  where
-    go : (b : Bool) → eqb (set % 2) 1 ≡ b → (ownersIn n (suc k) (set / 2) ≡ [] → set / 2 ≡ 0) → cond b (suc k ∷ ownersIn n (suc k) (set / 2)) (ownersIn n (suc k) (set / 2)) ≡ [] → set ≡ 0
-    go true f r e = absurd (omega (arith, ap length e))
-    go false f r e = let odd : set % 2 ≡ 1 → ⊥ = eqb-false (set % 2) 1 f in small (set % 2) refl odd (r e)
-      where
-        small : (m : ℕ) → set % 2 ≡ m → (set % 2 ≡ 1 → ⊥) → set / 2 ≡ 0 → set ≡ 0
-        small zero p q z = omega arith
-        small (suc zero) p q z = absurd (q p)
-        small (suc (suc m)) p q z = omega arith
-
-of-none : ownersOf 0 ≡ []
-unfolding ownersOf
-of-none = owners-none 64 0
-
-settled-in : (n set : ℕ) → settledBy (standingBy (ownersIn n 0 set)) ≡ getD (ownersIn n 0 set) 0 0
-settled-in n set = first-settled (ownersIn n 0 set)
-
-settled-of : (set : ℕ) → settledBy (standingOf set) ≡ getD (ownersOf set) 0 0
-unfolding ownersOf standingOf
-settled-of set = settled-in 64 set
-
 -- The settled number is the first owner's, 0 where there is none.
-pub settled-at : (sets : List ℕ) (t : ℕ) → getD (settled sets) t 0 ≡ getD (ownersAt sets t) 0 0
-settled-at [] t = ap (λ l. getD l 0 0) (sym of-none)
-settled-at (x ∷ sets) zero = settled-of x
-settled-at (x ∷ sets) (suc t) = settled-at sets t
+pub settled-at : (owners : List (List ℕ)) (t : ℕ) → getD (settled owners) t 0 ≡ getD (ownersAt owners t) 0 0
+settled-at [] t = refl
+settled-at (o ∷ owners) zero = first-settled o
+settled-at (o ∷ owners) (suc t) = settled-at owners t
 
-owners-low : (set : ℕ) → All (λ x. 0 < x) (ownersOf set)
-unfolding ownersOf
-owners-low set = owners-above 64 0 set
-
-owners-high : (set : ℕ) → All (λ x. x ≤ 0 + 64) (ownersOf set)
-unfolding ownersOf
-owners-high set = owners-within 64 0 set
-
-owners-rise : (set i j : ℕ) → i < j → j < length (ownersOf set) → getD (ownersOf set) i 0 < getD (ownersOf set) j 0
-unfolding ownersOf
-owners-rise set = owners-ascending 64 0 set
-
-none-of : (set : ℕ) → set < 2 ^ 64 → ownersOf set ≡ [] → set ≡ 0
-unfolding ownersOf
-none-of set h e = none-owners 64 0 set h e
-
--- A set has no owner in it exactly if it is 0.
-pub unowned : (set : ℕ) → set < 2 ^ 64 → (ownersOf set ≡ []) ↔ (set ≡ 0)
-unowned set h = (none-of set h, λ e. ap ownersOf e ∙ of-none)
-
-pub length-settled : (sets : List ℕ) → length (settled sets) ≡ length sets
-length-settled sets = length-map sets (λ set. settledBy (standingOf set))
-
--- A settled number is at most 64.
-pub settled-small : (set : ℕ) → settledBy (standingOf set) ≤ 64
-settled-small set = go (ownersOf set) (settled-of set) (owners-high set)
-  where
-    go : (l : List ℕ) → settledBy (standingOf set) ≡ getD l 0 0 → All (λ x. x ≤ 0 + 64) l → settledBy (standingOf set) ≤ 64
-    go [] e h = omega arith
-    go (x ∷ l) e h = omega (arith, h .0)
-
-settled-high : (sets : List ℕ) (t : ℕ) → getD (settled sets) t 0 ≤ 64
-settled-high [] t = omega arith
-settled-high (x ∷ sets) zero = settled-small x
-settled-high (x ∷ sets) (suc t) = settled-high sets t
+pub length-settled : (owners : List (List ℕ)) → length (settled owners) ≡ length owners
+length-settled owners = length-map owners (λ o. settledBy (standingBy o))
 
 -- A gap is a triangle with no owner.
-pub gap-is : (opposite sets : List ℕ) (t : ℕ) → (gap opposite (settled sets) t ≡ true) ↔ (ownersAt sets t ≡ [])
-gap-is opposite sets t = (
-  λ g. there (ownersAt sets t) (owners-low (getD sets t 0)) (sym (settled-at sets t) ∙ eqb-true (getD (settled sets) t 0) 0 g),
-  λ e. eq-eqb (getD (settled sets) t 0) 0 (settled-at sets t ∙ ap (λ l. getD l 0 0) e),
+pub gap-is : (opposite : List ℕ) (owners : List (List ℕ)) → OwnersListed owners → (t : ℕ) → (gap opposite (settled owners) t ≡ true) ↔ (ownersAt owners t ≡ [])
+gap-is opposite owners listed t = (
+  λ g. there (ownersAt owners t) (all-there (All (λ k. 1 ≤ k)) tt owners t (listed .numbered)) (sym (settled-at owners t) ∙ eqb-true (getD (settled owners) t 0) 0 g),
+  λ e. eq-eqb (getD (settled owners) t 0) 0 (settled-at owners t ∙ ap (λ l. getD l 0 0) e),
 )
   where
-    there : (l : List ℕ) → All (λ x. 0 < x) l → getD l 0 0 ≡ 0 → l ≡ []
+    there : (l : List ℕ) → All (λ k. 1 ≤ k) l → getD l 0 0 ≡ 0 → l ≡ []
     there [] h z = refl
     there (x ∷ l) h z = absurd (omega (arith, h .0))
 
@@ -189,238 +132,362 @@ every-not (x ∷ l) h = go (eqb 0 x) refl h (every-not l)
     go true e h r = let s = r h in (suc (s .0), omega (arith, s .1), s .2)
     go false e h r = (0, omega arith, λ z. eqb-false 0 x e (sym z))
 
--- What repair answers, by the test whether all settled numbers are 0.
-abbrev pub answer : List ℕ → List ℕ → Bool → Option (List ℕ)
-answer opposite sets b = cond b none (some (map (ownerOf opposite (settled sets)) (from 0 (length sets))))
-
-pub repaired-is : (opposite sets : List ℕ) → repaired opposite sets ≡ answer opposite sets (every (eqb 0) (settled sets))
-unfolding repaired
-repaired-is opposite sets = refl
-
--- Repair has no answer exactly if no triangle has an owner.
-pub no-owner : (opposite sets : List ℕ) → All (λ x. x < 2 ^ 64) sets → (repaired opposite sets ≡ none) ↔ ((t : ℕ) → t < length sets → getD sets t 0 ≡ 0)
-no-owner opposite sets small = (
-  λ e. there (every (eqb 0) (settled sets)) refl (sym (repaired-is opposite sets) ∙ e),
-  λ h. here h (every (eqb 0) (settled sets)) refl (repaired-is opposite sets),
-)
+-- ---- the first number that is 0
+-- The first place of which something holds is one place.
+pub same-first : (P : ℕ → Type 0) (t i : ℕ) → P t → P i → ((u : ℕ) → u < t → P u → ⊥) → ((u : ℕ) → u < i → P u → ⊥) → t ≡ i
+same-first P t i p q f g = go (decLe (suc t) i) (decLe (suc i) t)
   where
-    there : (b : Bool) → every (eqb 0) (settled sets) ≡ b → answer opposite sets b ≡ none → (t : ℕ) → t < length sets → getD sets t 0 ≡ 0
-    there true e h t l = unowned (getD sets t 0) (all-at (λ x. x < 2 ^ 64) 0 sets t small l) .0
-        (gap-is opposite sets t .0 (eq-eqb (getD (settled sets) t 0) 0 (every-zero (settled sets) e t)))
-    there false e h t l = absurd (Option·some-ne-none _ h)
+    go : Dec (suc t ≤ i) → Dec (suc i ≤ t) → t ≡ i
+    go (yes h) d = absurd (g t h p)
+    go (no h) (yes d) = absurd (f i d q)
+    go (no h) (no d) = omega arith
 
-    here : ((t : ℕ) → t < length sets → getD sets t 0 ≡ 0) → (b : Bool) → every (eqb 0) (settled sets) ≡ b → repaired opposite sets ≡ answer opposite sets b → repaired opposite sets ≡ none
-    here h true e r = r
-    here h false e r =
-        let v = every-not (settled sets) e in
-        absurd (v .2 (settled-at sets (v .0) ∙ ap (λ x. getD (ownersOf x) 0 0) (h (v .0) (omega (arith, v .1, length-settled sets))) ∙ ap (λ l. getD l 0 0) of-none))
+-- None of the first n numbers is 0.
+abbrev pub NoZero : List ℕ → ℕ → Type 0
+NoZero l n = (i : ℕ) → i < n → getD l i 0 ≡ 0 → ⊥
 
--- ---- gap regions
-module _ (opposite numbers : List ℕ) (pairs : Paired opposite (length numbers)) (joins : Connects opposite (length numbers)) where
-  -- Where one triangle has an owner, one across a side of each gap region has.
-  pub region-owned : (v : ℕ) → v < length numbers → (getD numbers v 0 ≡ 0 → ⊥) → (t : ℕ) → t < length numbers → gap opposite numbers t ≡ true
-      → largest opposite numbers (region opposite numbers t) ≡ 0 → ⊥
-  region-owned v w owned t h g z =
-      owned (eqb-true (getD numbers v 0) 0 (joined-gap opposite numbers g (region-has opposite numbers pairs t h v .0 reached .1)))
-    where
-      -- What is across a side of the region is a gap,
-      empty : (k o : ℕ) → getD (region opposite numbers t) (k / 3) false ≡ true → getD opposite k 0 ≡ suc o → gap opposite numbers (o / 3) ≡ true
-      empty k o m e =
-          let a = largest-above opposite numbers (region opposite numbers t) k (has-side opposite k o e) m in
-          let b : getD numbers (o / 3) 0 ≤ largest opposite numbers (region opposite numbers t) = subst (λ x. beyond opposite numbers x ≤ largest opposite numbers (region opposite numbers t)) e a in
-          eq-eqb (getD numbers (o / 3) 0) 0 (omega arith)
+-- The number n, counted from behind b others, is that of the first 0; there is none.
+abbrev pub FirstZero : ℕ → List ℕ → Option ℕ → Type 0
+FirstZero b l none = NoZero l (length l)
+FirstZero b l (some n) = (i : ℕ) × (n ≡ suc (b + i)) × (i < length l) × (getD l i 0 ≡ 0) × NoZero l i
 
-      -- so that all triangles are in it.
-      reached : getD (region opposite numbers t) v false ≡ true
-      reached = joins (region opposite numbers t) (region-length opposite numbers t) (λ k o m e. region-closed opposite numbers pairs t h (k / 3) k o m refl e (empty k o m e))
-          t h (region-own opposite numbers pairs t h) v w
+pub zero-from : (before l : List ℕ) → FirstZero (length before) l (firstFault ungiven before l)
+zero-from before [] = λ i h z. omega arith
+zero-from before (x ∷ l) = go (eqb x 0) refl (firstFault ungiven (x ∷ before) l) (zero-from (x ∷ before) l)
+  where
+    more : (n : ℕ) → (x ≡ 0 → ⊥) → NoZero l n → NoZero (x ∷ l) (suc n)
+    more n f h zero w z = f z
+    more n f h (suc i) w z = h i (omega arith) z
+
+    go : (b : Bool) → eqb x 0 ≡ b → (r : Option ℕ) → FirstZero (suc (length before)) l r → FirstZero (length before) (x ∷ l) (elim b [ true ↦ some (suc (length before)) | false ↦ r ])
+    go true e r h = (0, omega arith, omega arith, eqb-true x 0 e, λ i w z. omega arith)
+    go false e none h = more (length l) (eqb-false x 0 e) h
+    go false e (some n) (i, p, w, z, h) = (suc i, omega arith, omega arith, z, more i (eqb-false x 0 e) h)
 
 -- ---- the first of an ascending list
-pub first-among : (l : List ℕ) → 1 ≤ length l → Among eqb (getD l 0 0) l
+first-among : (l : List ℕ) → 1 ≤ length l → Among eqb (getD l 0 0) l
 first-among [] h = absurd (omega arith)
 first-among (x ∷ l) h = omega (arith, ap bit (eq-eqb x x refl))
 
-among-at : (k : ℕ) (l : List ℕ) → Among eqb k l → (i : ℕ) × (i < length l) × (getD l i 0 ≡ k)
-among-at k [] h = absurd (omega arith)
-among-at k (x ∷ l) h = go (eqb x k) refl h (among-at k l)
-  where
-    go : (b : Bool) → eqb x k ≡ b → 1 ≤ bit b + count eqb k l → (Among eqb k l → (i : ℕ) × (i < length l) × (getD l i 0 ≡ k)) → (i : ℕ) × (i < length (x ∷ l)) × (getD (x ∷ l) i 0 ≡ k)
-    go true e h r = (0, omega arith, eqb-true x k e)
-    go false e h r = let s = r (omega arith) in (suc (s .0), omega (arith, s .1), s .2)
+filled : (l : List ℕ) → (l ≡ [] → ⊥) → 1 ≤ length l
+filled [] f = absurd (f refl)
+filled (x ∷ l) f = omega arith
 
-first-least : (l : List ℕ) → ((i j : ℕ) → i < j → j < length l → getD l i 0 < getD l j 0) → (k : ℕ) → Among eqb k l → getD l 0 0 ≤ k
-first-least l h k a = let s = among-at k l a in go (s .0) (s .1) (s .2)
+first-least : (l : List ℕ) → Ascending l → (k : ℕ) → Among eqb k l → getD l 0 0 ≤ k
+first-least [] h k a = absurd (omega arith)
+first-least (x ∷ l) h k a = go (eqb x k) refl a
   where
-    go : (i : ℕ) → i < length l → getD l i 0 ≡ k → getD l 0 0 ≤ k
-    go zero w e = omega arith
-    go (suc i) w e = omega (arith, h 0 (suc i) (omega arith) w)
+    go : (b : Bool) → eqb x k ≡ b → 1 ≤ bit b + count eqb k l → x ≤ k
+    go true e a = omega (arith, eqb-true x k e)
+    go false e a = let above : x < k = counted eqb eqb→eq eqb-refl (λ j. x < j) k l (omega arith) (h .0) in omega arith
 
-module _ (opposite sets : List ℕ) where
+-- ---- the ways repair can go
+module _ (choice : Choice) (opposite : List ℕ) (owners : List (List ℕ)) where
   abbrev numbers : List ℕ
-  numbers = settled sets
+  numbers = settled owners
 
-  -- What repair answers where it has an answer.
-  abbrev answered : List ℕ
-  answered = map (ownerOf opposite numbers) (from 0 (length sets))
+  abbrev given : List ℕ
+  given = numbersGiven choice opposite numbers
 
-  answered-at : (t : ℕ) → t < length sets → getD answered t 0 ≡ ownerOf opposite numbers t
-  answered-at t h = map-from-at (ownerOf opposite numbers) (length sets) t 0 h
+  -- The number chosen for the region of triangle t.
+  abbrev choiceFor : ℕ → ℕ
+  choiceFor t = choice numbers (region opposite numbers t)
 
-  answered-gap : (t : ℕ) → t < length sets → ownersAt sets t ≡ [] → getD answered t 0 ≡ largest opposite numbers (region opposite numbers t)
-  answered-gap t h e = answered-at t h ∙ ap (λ b. cond b (largest opposite numbers (region opposite numbers t)) (getD numbers t 0)) (gap-is opposite sets t .1 e)
+  -- What repair comes to, by the test whether all settled numbers are 0, and the first triangle that nobody can be given.
+  abbrev pub answer : Bool → Option ℕ → Answer (List ℕ)
+  answer unowned fault = andThen (needing (not unowned) 30 0) (λ passed. andThen (faultless 31 fault) (λ passed. value given))
 
-  not-gap : (t : ℕ) → (ownersAt sets t ≡ [] → ⊥) → gap opposite numbers t ≡ false
-  not-gap t f = ne-eqb (getD numbers t 0) 0 (λ z. f (gap-is opposite sets t .0 (eq-eqb (getD numbers t 0) 0 z)))
+  pub repaired-by : {b : Bool} {r : Option ℕ} → every (eqb 0) numbers ≡ b → firstFault ungiven [] given ≡ r → repaired choice opposite owners ≡ answer b r
+  unfolding repaired
+  repaired-by e f = ap₂ answer e f
 
-  answered-first : (t : ℕ) → t < length sets → 1 ≤ length (ownersAt sets t) → getD answered t 0 ≡ getD (ownersAt sets t) 0 0
-  answered-first t h w =
-      answered-at t h
-      ∙ ap (λ b. cond b (largest opposite numbers (region opposite numbers t)) (getD numbers t 0)) (not-gap t (λ e. omega (arith, ap length e)))
-      ∙ settled-at sets t
+  -- No triangle has an owner; there is a first one that nobody can be given; or each is given to somebody.
+  data Way : Type 0 where
+    nobody : every (eqb 0) numbers ≡ true → repaired choice opposite owners ≡ refused 30 0 → Way
+    alone : every (eqb 0) numbers ≡ false → (t : ℕ) → t < length owners → getD given t 0 ≡ 0 → NoZero given t → repaired choice opposite owners ≡ refused 31 (suc t) → Way
+    all : every (eqb 0) numbers ≡ false → NoZero given (length owners) → repaired choice opposite owners ≡ value given → Way
 
-  beyond-high : (x : ℕ) → beyond opposite numbers x ≤ 64
-  beyond-high zero = omega arith
-  beyond-high (suc o) = settled-high sets (o / 3)
+  pub length-given : length given ≡ length owners
+  length-given = length-map-from (ownerOf choice opposite numbers) 0 (length numbers) ∙ length-settled owners
 
-  largest-high : (group : List Bool) → largest opposite numbers group ≤ 64
-  largest-high group = go (largest-found opposite numbers group)
+  way : Way
+  way = go (every (eqb 0) numbers) refl (firstFault ungiven [] given) refl (zero-from [] given)
     where
-      go : (largest opposite numbers group ≡ 0)
-          ⊎ (k : ℕ) × (k < length opposite) × (getD group (k / 3) false ≡ true) × (beyond opposite numbers (getD opposite k 0) ≡ largest opposite numbers group)
-          → largest opposite numbers group ≤ 64
-      go (inl z) = omega arith
-      go (inr r) = subst (λ m. m ≤ 64) (r .3) (beyond-high (getD opposite (r .0) 0))
+      go : (b : Bool) → every (eqb 0) numbers ≡ b → (r : Option ℕ) → firstFault ungiven [] given ≡ r → FirstZero 0 given r → Way
+      go true e r f h = nobody e (repaired-by e f)
+      go false e none f h = all e (subst (NoZero given) length-given h) (repaired-by e f)
+      go false e (some n) f (i, p, w, z, h) = let q : n ≡ suc i = omega arith in alone e i (omega (arith, length-given)) z h (repaired-by e (f ∙ ap some q))
 
-  module _ (pairs : Paired opposite (length sets)) (joins : Connects opposite (length sets)) (v : ℕ) (w : v < length sets) (some-owner : getD numbers v 0 ≡ 0 → ⊥) where
-    long : length numbers ≡ length sets
-    long = length-settled sets
+  -- The answer of repair has a number for each triangle: those given, of which none is 0.
+  repaired-given : (l : List ℕ) → repaired choice opposite owners ≡ value l → (given ≡ l) × NoZero given (length owners)
+  repaired-given l e = go way
+    where
+      go : Way → (given ≡ l) × NoZero given (length owners)
+      go (nobody f r) = absurd (let z : _≡_ {A = ℕ} 0 1 = cc (sym r ∙ e) in omega arith)
+      go (alone f t w z h r) = absurd (let z : _≡_ {A = ℕ} 0 1 = cc (sym r ∙ e) in omega arith)
+      go (all f h r) = (cc (sym r ∙ e), h)
 
-    paired-numbers : Paired opposite (length numbers)
-    paired-numbers = subst (Paired opposite) (sym long) pairs
+  pub repaired-length : (l : List ℕ) → repaired choice opposite owners ≡ value l → length l ≡ length owners
+  repaired-length l e = ap length (sym (repaired-given l e .0)) ∙ length-given
 
-    joins-numbers : Connects opposite (length numbers)
-    joins-numbers = subst (Connects opposite) (sym long) joins
+  -- Repair is refused with 30 and item 0, or with 31.
+  pub refused-by : (code item : ℕ) → repaired choice opposite owners ≡ refused code item → ((code ≡ 30) × (item ≡ 0)) ⊎ (code ≡ 31)
+  refused-by code item e = go way
+    where
+      go : Way → ((code ≡ 30) × (item ≡ 0)) ⊎ (code ≡ 31)
+      go (nobody f r) = let p = sym r ∙ e in inl (cc p, cc p)
+      go (alone f t w z h r) = let p = sym r ∙ e in inr (cc p)
+      go (all f h r) = absurd (let z : _≡_ {A = ℕ} 0 1 = cc (sym r ∙ e) in omega arith)
 
-    within : (t : ℕ) → t < length sets → t < length numbers
-    within t h = omega (arith, long)
+  -- ---- for the owners of the triangles of a table
+  module _ (listed : OwnersListed owners) where
+    within : (t : ℕ) → t < length owners → t < length numbers
+    within t h = omega (arith, length-settled owners)
 
-    not-none : (t : ℕ) → t < length sets → ownersAt sets t ≡ [] → largest opposite numbers (region opposite numbers t) ≡ 0 → ⊥
-    not-none t h e = region-owned opposite numbers paired-numbers joins-numbers v (within v w) some-owner t (within t h) (gap-is opposite sets t .1 e)
+    answered-at : (t : ℕ) → t < length owners → getD given t 0 ≡ ownerOf choice opposite numbers t
+    answered-at t h = map-from-at (ownerOf choice opposite numbers) (length numbers) t 0 (within t h)
 
-    in-region : (t u : ℕ) → t < length sets → Joined opposite numbers t u → getD (region opposite numbers t) u false ≡ true
-    in-region t u h j = region-has opposite numbers paired-numbers t (within t h) u .1 (joined-within opposite numbers paired-numbers (within t h) j, j)
+    -- A gap has the number chosen for its region,
+    answered-gap : (t : ℕ) → t < length owners → ownersAt owners t ≡ [] → getD given t 0 ≡ choiceFor t
+    answered-gap t h e = answered-at t h ∙ ap (λ b. cond b (choiceFor t) (getD numbers t 0)) (gap-is opposite owners listed t .1 e)
 
-    answered-owned : (t : ℕ) → t < length sets → (1 ≤ getD answered t 0) × (getD answered t 0 ≤ 64)
-    answered-owned t h = go (ownersAt sets t) refl (owners-low (getD sets t 0)) (owners-high (getD sets t 0))
+    -- and any other triangle its first owner's, which is not 0.
+    answered-first : (t : ℕ) → t < length owners → 1 ≤ length (ownersAt owners t) → getD given t 0 ≡ getD (ownersAt owners t) 0 0
+    answered-first t h w =
+        answered-at t h
+        ∙ ap (λ b. cond b (choiceFor t) (getD numbers t 0))
+        (ne-eqb (getD numbers t 0) 0 (λ z. omega (arith, ap length (gap-is opposite owners listed t .0 (eq-eqb (getD numbers t 0) 0 z)))))
+        ∙ settled-at owners t
+
+    zero-gap : (t : ℕ) → t < length owners → getD given t 0 ≡ 0 → ownersAt owners t ≡ []
+    zero-gap t h z = go (ownersAt owners t) refl (all-there (All (λ k. 1 ≤ k)) tt owners t (listed .numbered))
       where
-        go : (r : List ℕ) → ownersAt sets t ≡ r → All (λ x. 0 < x) r → All (λ x. x ≤ 0 + 64) r → (1 ≤ getD answered t 0) × (getD answered t 0 ≤ 64)
-        go [] e p q = subst (λ m. (1 ≤ m) × (m ≤ 64)) (sym (answered-gap t h e)) (above (largest opposite numbers (region opposite numbers t)) (not-none t h e), largest-high (region opposite numbers t))
+        go : (r : List ℕ) → ownersAt owners t ≡ r → All (λ k. 1 ≤ k) r → ownersAt owners t ≡ []
+        go [] e p = e
+        go (x ∷ r) e p = absurd (omega (arith, answered-first t h (omega (arith, ap length e)), ap (λ r. getD r 0 0) e, p .0))
+
+    -- Where not all settled numbers are 0, some triangle has an owner,
+    some-owned : every (eqb 0) numbers ≡ false → SomeOwner owners
+    some-owned e =
+        let v = every-not numbers e in
+        (v .0, omega (arith, v .1, length-settled owners), λ n. v .2 (settled-at owners (v .0) ∙ ap (λ l. getD l 0 0) n))
+
+    -- and where they are, none has.
+    all-unowned : (every (eqb 0) numbers ≡ true) ↔ ((t : ℕ) → t < length owners → ownersAt owners t ≡ [])
+    all-unowned = (
+      λ e t h. gap-is opposite owners listed t .0 (eq-eqb (getD numbers t 0) 0 (every-zero numbers e t)),
+      λ h. go h (every (eqb 0) numbers) refl,
+    )
+      where
+        go : ((t : ℕ) → t < length owners → ownersAt owners t ≡ []) → (b : Bool) → every (eqb 0) numbers ≡ b → every (eqb 0) numbers ≡ true
+        go h true e = e
+        go h false e = let (v, w, f) = some-owned e in absurd (f (h v w))
+
+    not-all : SomeOwner owners → every (eqb 0) numbers ≡ true → ⊥
+    not-all (v, w, f) e = f (all-unowned .0 e v w)
+
+    -- 30 exactly if no triangle has an owner.
+    pub no-owner : (repaired choice opposite owners ≡ refused 30 0) ↔ ((t : ℕ) → t < length owners → ownersAt owners t ≡ [])
+    no-owner = (λ e. there e way, λ h. here h way)
+      where
+        there : repaired choice opposite owners ≡ refused 30 0 → Way → (t : ℕ) → t < length owners → ownersAt owners t ≡ []
+        there e (nobody f r) = all-unowned .0 f
+        there e (alone f t w z h r) = absurd (let z : _≡_ {A = ℕ} 31 30 = cc (sym r ∙ e) in omega arith)
+        there e (all f h r) = absurd (let z : _≡_ {A = ℕ} 0 1 = cc (sym r ∙ e) in omega arith)
+
+        here : ((t : ℕ) → t < length owners → ownersAt owners t ≡ []) → Way → repaired choice opposite owners ≡ refused 30 0
+        here u (nobody f r) = r
+        here u (alone f t w z h r) = absurd (not-both (every (eqb 0) numbers) f (all-unowned .1 u))
+        here u (all f h r) = absurd (not-both (every (eqb 0) numbers) f (all-unowned .1 u))
+
+    -- Where each triangle has an owner, repair has an answer.
+    pub clean-given : ((t : ℕ) → t < length owners → ownersAt owners t ≡ [] → ⊥) → 1 ≤ length owners → repaired choice opposite owners ≡ value (numbersGiven choice opposite (settled owners))
+    clean-given owned there = go way
+      where
+        go : Way → repaired choice opposite owners ≡ value given
+        go (nobody f r) = absurd (not-all (0, there, owned 0 there) f)
+        go (alone f t w z h r) = absurd (owned t w (zero-gap t w z))
+        go (all f h r) = r
+
+    -- ---- by a choice as it has to be, and sides that pair up
+    module _ (chooses : Chooses opposite choice) (pairs : Paired opposite (length owners)) where
+      paired-numbers : Paired opposite (length numbers)
+      paired-numbers = subst (Paired opposite) (sym (length-settled owners)) pairs
+
+      in-region : (t u : ℕ) → t < length owners → Joined opposite numbers t u → getD (region opposite numbers t) u false ≡ true
+      in-region t u h j = region-has opposite numbers paired-numbers t (within t h) u .1 (joined-within opposite numbers paired-numbers (within t h) j, j)
+
+      -- Nobody can be given a triangle exactly if no triangle across the sides of its region has an owner.
+      alone-is : (t : ℕ) → t < length owners → (getD given t 0 ≡ 0) ↔ Alone opposite owners t
+      alone-is t h = (there, λ a. answered-gap t h (a .gap) ∙ here a (chooses .found numbers (region opposite numbers t)))
+        where
+          there : getD given t 0 ≡ 0 → Alone opposite owners t
+          there z =
+              let g = zero-gap t h z in
+              record {
+                gap = g;
+                across = λ k o j e.
+                    let n = chooses .none numbers (region opposite numbers t) (sym (answered-gap t h g) ∙ z) k (has-side opposite k o e) (in-region t (k / 3) h j) in
+                    gap-is opposite owners listed (o / 3) .0 (eq-eqb (getD numbers (o / 3) 0) 0 (subst (λ x. beyond opposite numbers x ≡ 0) e n));
+              }
+
+          here : Alone opposite owners t → FoundAcross opposite numbers (region opposite numbers t) (choiceFor t) → choiceFor t ≡ 0
+          here a (inl z) = z
+          here a (inr (k, w, m, b)) = sym b ∙ side (getD opposite k 0) refl
+            where
+              side : (x : ℕ) → getD opposite k 0 ≡ x → beyond opposite numbers (getD opposite k 0) ≡ 0
+              side zero e = ap (beyond opposite numbers) e
+              side (suc o) e =
+                  let j = region-has opposite numbers paired-numbers t (within t h) (k / 3) .0 m .1 in
+                  ap (beyond opposite numbers) e ∙ eqb-true (getD numbers (o / 3) 0) 0 (gap-is opposite owners listed (o / 3) .1 (a .across k o j e))
+
+      -- 31 exactly if some triangle has an owner and there is a region with none across its sides; the item is the first triangle of such a region.
+      pub not-given : (item : ℕ) → (repaired choice opposite owners ≡ refused 31 item) ↔ FirstAlone opposite owners item
+      not-given item = (λ e. there e way, λ a. here a way)
+        where
+          there : repaired choice opposite owners ≡ refused 31 item → Way → FirstAlone opposite owners item
+          there e (nobody f r) = absurd (let z : _≡_ {A = ℕ} 31 30 = cc (sym r ∙ e) in omega arith)
+          there e (alone f t w z h r) = record {
+            some-owner = some-owned f;
+            at = t;
+            counted = cc (sym r ∙ e);
+            within = w;
+            alone = alone-is t w .0 z;
+            none-before = λ u l a. h u l (alone-is u (omega arith) .1 a);
+          }
+          there e (all f h r) = absurd (let z : _≡_ {A = ℕ} 0 1 = cc (sym r ∙ e) in omega arith)
+
+          here : FirstAlone opposite owners item → Way → repaired choice opposite owners ≡ refused 31 item
+          here a (nobody f r) = absurd (not-all (a .some-owner) f)
+          here a (alone f t w z h r) =
+              let e = same-first (Alone opposite owners) t (a .at) (alone-is t w .0 z) (a .alone) (λ u l b. h u l (alone-is u (omega arith) .1 b)) (a .none-before) in
+              r ∙ ap (refused 31) (omega (arith, a .counted))
+          here a (all f h r) = absurd (h (a .at) (a .within) (alone-is (a .at) (a .within) .1 (a .alone)))
+
+      -- In a connected table with some owner no region is alone,
+      pub none-alone : Connects opposite (length owners) → SomeOwner owners → (t : ℕ) → t < length owners → Alone opposite owners t → ⊥
+      none-alone joins (v, w, owned) t h a =
+          let g = gap-is opposite owners listed t .1 (a .gap) in
+          owned (gap-is opposite owners listed v .0 (joined-gap opposite numbers g (joined v (reached v w))))
+        where
+          joined : (u : ℕ) → getD (region opposite numbers t) u false ≡ true → Joined opposite numbers t u
+          joined u m = region-has opposite numbers paired-numbers t (within t h) u .0 m .1
+
+          reached : (u : ℕ) → u < length owners → getD (region opposite numbers t) u false ≡ true
+          reached u l =
+              joins (region opposite numbers t) (region-length opposite numbers t ∙ length-settled owners)
+              (λ k o m e. region-closed opposite numbers paired-numbers t (within t h) (k / 3) k o m refl e (gap-is opposite owners listed (o / 3) .1 (a .across k o (joined (k / 3) m) e)))
+              t h (region-own opposite numbers paired-numbers t (within t h)) u l
+
+      -- and repair has an answer.
+      pub always-given : Connects opposite (length owners) → SomeOwner owners → repaired choice opposite owners ≡ value (numbersGiven choice opposite (settled owners))
+      always-given joins some-owner = go way
+        where
+          go : Way → repaired choice opposite owners ≡ value given
+          go (nobody f r) = absurd (not-all some-owner f)
+          go (alone f t w z h r) = absurd (none-alone joins some-owner t w (alone-is t w .0 z))
+          go (all f h r) = r
+
+      -- ---- where each triangle is given to somebody
+      module _ (full : (t : ℕ) → t < length owners → getD given t 0 ≡ 0 → ⊥) where
+        answered-found : (t : ℕ) → t < length owners → ownersAt owners t ≡ [] → FoundFor opposite owners t (getD given t 0)
+        answered-found t h e = go (chooses .found numbers (region opposite numbers t))
           where
-            above : (m : ℕ) → (m ≡ 0 → ⊥) → 1 ≤ m
-            above zero f = absurd (f refl)
-            above (suc m) f = omega arith
-        go (x ∷ r) e p q =
-            let at : getD answered t 0 ≡ x = answered-first t h (omega (arith, ap length e)) ∙ ap (λ r. getD r 0 0) e in
-            (omega (arith, p .0), omega (arith, q .0))
+            some-number : choiceFor t ≡ 0 → ⊥
+            some-number z = full t h (answered-gap t h e ∙ z)
 
-    answered-found : (t : ℕ) → t < length sets → ownersAt sets t ≡ []
-        → (k : ℕ) × (o : ℕ) × Joined opposite numbers t (k / 3) × (getD opposite k 0 ≡ suc o) × (ownersAt sets (o / 3) ≡ [] → ⊥) × (getD answered t 0 ≡ getD numbers (o / 3) 0)
-    answered-found t h e = go (largest-found opposite numbers (region opposite numbers t))
-      where
-        across : (k : ℕ) → Joined opposite numbers t (k / 3) → (x : ℕ) → getD opposite k 0 ≡ x → beyond opposite numbers x ≡ largest opposite numbers (region opposite numbers t)
-            → (k : ℕ) × (o : ℕ) × Joined opposite numbers t (k / 3) × (getD opposite k 0 ≡ suc o) × (ownersAt sets (o / 3) ≡ [] → ⊥) × (getD answered t 0 ≡ getD numbers (o / 3) 0)
-        across k j zero d b = absurd (not-none t h e (sym b))
-        across k j (suc o) d b =
-            (k, o, j, d, (λ f. not-none t h e (sym b ∙ eqb-true (getD numbers (o / 3) 0) 0 (gap-is opposite sets (o / 3) .1 f))), answered-gap t h e ∙ sym b)
+            across : (k : ℕ) → Joined opposite numbers t (k / 3) → (x : ℕ) → getD opposite k 0 ≡ x → beyond opposite numbers x ≡ choiceFor t → FoundFor opposite owners t (getD given t 0)
+            across k j zero d b = absurd (some-number (sym b))
+            across k j (suc o) d b =
+                (k, o, j, d, (λ f. some-number (sym b ∙ eqb-true (getD numbers (o / 3) 0) 0 (gap-is opposite owners listed (o / 3) .1 f))), answered-gap t h e ∙ sym b)
 
-        go : (largest opposite numbers (region opposite numbers t) ≡ 0)
-            ⊎ (k : ℕ) × (k < length opposite) × (getD (region opposite numbers t) (k / 3) false ≡ true)
-            × (beyond opposite numbers (getD opposite k 0) ≡ largest opposite numbers (region opposite numbers t))
-            → (k : ℕ) × (o : ℕ) × Joined opposite numbers t (k / 3) × (getD opposite k 0 ≡ suc o) × (ownersAt sets (o / 3) ≡ [] → ⊥) × (getD answered t 0 ≡ getD numbers (o / 3) 0)
-        go (inl z) = absurd (not-none t h e z)
-        go (inr r) = across (r .0) (region-has opposite numbers paired-numbers t (within t h) (r .0 / 3) .0 (r .2) .1) (getD opposite (r .0) 0) refl (r .3)
+            go : FoundAcross opposite numbers (region opposite numbers t) (choiceFor t) → FoundFor opposite owners t (getD given t 0)
+            go (inl z) = absurd (some-number z)
+            go (inr (k, w, m, b)) = across k (region-has opposite numbers paired-numbers t (within t h) (k / 3) .0 m .1) (getD opposite k 0) refl b
 
-    answered-same : (t u : ℕ) → t < length sets → ownersAt sets t ≡ [] → Joined opposite numbers t u → getD answered u 0 ≡ getD answered t 0
-    answered-same t u h e j =
-        let g = gap-is opposite sets t .1 e in
-        let there : u < length sets = omega (arith, joined-within opposite numbers paired-numbers (within t h) j, long) in
-        answered-gap u there (gap-is opposite sets u .0 (joined-gap opposite numbers g j))
-        ∙ ap (largest opposite numbers) (region-same opposite numbers paired-numbers t u (within t h) g (in-region t u h j))
-        ∙ sym (answered-gap t h e)
+        -- The settled number of a triangle with an owner is one of its owners.
+        settled-among : (u : ℕ) → (ownersAt owners u ≡ [] → ⊥) → Among eqb (getD numbers u 0) (ownersAt owners u)
+        settled-among u f = subst (λ k. Among eqb k (ownersAt owners u)) (sym (settled-at owners u)) (first-among (ownersAt owners u) (filled (ownersAt owners u) f))
 
-    answered-largest : (t k o : ℕ) → t < length sets → ownersAt sets t ≡ [] → Joined opposite numbers t (k / 3) → getD opposite k 0 ≡ suc o → getD numbers (o / 3) 0 ≤ getD answered t 0
-    answered-largest t k o h e j d =
-        let a = largest-above opposite numbers (region opposite numbers t) k (has-side opposite k o d) (in-region t (k / 3) h j) in
-        let b : getD numbers (o / 3) 0 ≤ largest opposite numbers (region opposite numbers t) = subst (λ x. beyond opposite numbers x ≤ largest opposite numbers (region opposite numbers t)) d a in
-        subst (λ m. getD numbers (o / 3) 0 ≤ m) (sym (answered-gap t h e)) b
+        answered-owned : (t : ℕ) → t < length owners → (u : ℕ) × (u < length owners) × Among eqb (getD given t 0) (ownersAt owners u)
+        answered-owned t h = go (ownersAt owners t) refl
+          where
+            go : (r : List ℕ) → ownersAt owners t ≡ r → (u : ℕ) × (u < length owners) × Among eqb (getD given t 0) (ownersAt owners u)
+            go [] e =
+                let (k, o, j, d, f, s) = answered-found t h e in
+                (o / 3, omega (arith, pairs .there k o d, pairs .sides), subst (λ m. Among eqb m (ownersAt owners (o / 3))) (sym s) (settled-among (o / 3) f))
+            go (x ∷ r) e =
+                let w : 1 ≤ length (ownersAt owners t) = omega (arith, ap length e) in
+                (t, h, subst (λ m. Among eqb m (ownersAt owners t)) (sym (answered-first t h w)) (first-among (ownersAt owners t) w))
 
-    answered-one : OneOwner opposite sets answered
-    answered-one = record {
-      each = length-map-from (ownerOf opposite numbers) 0 (length sets);
-      owned = answered-owned;
-      single = λ t k h e. answered-first t h (omega (arith, ap length e)) ∙ ap (λ r. getD r 0 0) e;
-      overlap = λ t h m. subst (λ x. Among eqb x (ownersAt sets t) × ((k : ℕ) → Among eqb k (ownersAt sets t) → x ≤ k)) (sym (answered-first t h (omega arith)))
-          (first-among (ownersAt sets t) (omega arith), first-least (ownersAt sets t) (owners-rise (getD sets t 0)));
-      same = answered-same;
-      found = answered-found;
-      largest-there = answered-largest;
-    }
+        answered-same : (t u : ℕ) → t < length owners → ownersAt owners t ≡ [] → Joined opposite numbers t u → getD given u 0 ≡ getD given t 0
+        answered-same t u h e j =
+            let g = gap-is opposite owners listed t .1 e in
+            let there : u < length owners = omega (arith, joined-within opposite numbers paired-numbers (within t h) j, length-settled owners) in
+            answered-gap u there (gap-is opposite owners listed u .0 (joined-gap opposite numbers g j))
+            ∙ ap (choice numbers) (region-same opposite numbers paired-numbers t u (within t h) g (in-region t u h j))
+            ∙ sym (answered-gap t h e)
 
-  -- Repair answers that list, unless all settled numbers are 0.
-  repaired-answered : (l : List ℕ) → repaired opposite sets ≡ some l → (every (eqb 0) numbers ≡ false) × (answered ≡ l)
-  repaired-answered l e = go (every (eqb 0) numbers) refl (sym (repaired-is opposite sets) ∙ e)
+        answered-one : OneOwner opposite owners given
+        answered-one = record {
+          each = length-given;
+          owned = answered-owned;
+          single = λ t k h e. answered-first t h (omega (arith, ap length e)) ∙ ap (λ r. getD r 0 0) e;
+          overlap = λ t h m. subst (λ x. Among eqb x (ownersAt owners t) × ((k : ℕ) → Among eqb k (ownersAt owners t) → x ≤ k)) (sym (answered-first t h (omega arith)))
+              (first-among (ownersAt owners t) (omega arith), first-least (ownersAt owners t) (all-there Ascending tt owners t (listed .ascending)));
+          same = answered-same;
+          found = answered-found;
+        }
+
+      -- The answer of repair gives each triangle one owner, as laid down,
+      pub one-owner : (l : List ℕ) → repaired choice opposite owners ≡ value l → OneOwner opposite owners l
+      one-owner l e = let (g, n) = repaired-given l e in subst (OneOwner opposite owners) g (answered-one n)
+
+      -- and a gap's is the one choice for its region.
+      pub one-choice : (l : List ℕ) → repaired choice opposite owners ≡ value l → (t : ℕ) → t < length owners → ownersAt owners t ≡ []
+          → getD l t 0 ≡ choice (settled owners) (region opposite (settled owners) t)
+      one-choice l e t h n = subst (λ l. getD l t 0 ≡ choiceFor t) (repaired-given l e .0) (answered-gap t h n)
+
+-- ---- by the largest number
+module _ (opposite : List ℕ) (owners : List (List ℕ)) where
+  -- There is one list of owners at most, as laid down and with none larger across a region's sides.
+  pub only-one : (l m : List ℕ) → OneOwner opposite owners l → LargestThere opposite owners l → OneOwner opposite owners m → LargestThere opposite owners m → l ≡ m
+  only-one l m p pl q ql = ext-getD 0 l m (p .each ∙ sym (q .each)) (λ t h. let i : t < length owners = omega (arith, p .each) in go t i (ownersAt owners t) refl)
     where
-      go : (b : Bool) → every (eqb 0) numbers ≡ b → answer opposite sets b ≡ some l → (every (eqb 0) numbers ≡ false) × (answered ≡ l)
-      go true f e = absurd (Option·some-ne-none l (sym e))
-      go false f e = (f, Option·some-injective answered l e)
-
-  -- The answer of repair has a number for each triangle.
-  pub repaired-length : (l : List ℕ) → repaired opposite sets ≡ some l → length l ≡ length sets
-  repaired-length l e = ap length (sym (repaired-answered l e .1)) ∙ length-map-from (ownerOf opposite numbers) 0 (length sets)
-
-  -- With sides that pair up and connect the triangles, the answer of repair is one,
-  pub repaired-one : Paired opposite (length sets) → Connects opposite (length sets) → (l : List ℕ) → repaired opposite sets ≡ some l → OneOwner opposite sets l
-  repaired-one pairs joins l e =
-      let a = repaired-answered l e in
-      let v = every-not numbers (a .0) in
-      subst (OneOwner opposite sets) (a .1) (answered-one pairs joins (v .0) (omega (arith, v .1, length-settled sets)) (v .2))
-
-  -- and there is no other.
-  pub only-one : (l m : List ℕ) → OneOwner opposite sets l → OneOwner opposite sets m → l ≡ m
-  only-one l m p q = ext-getD 0 l m (p .each ∙ sym (q .each)) (λ t h. let i : t < length sets = omega (arith, p .each) in go t i (ownersAt sets t) refl)
-    where
-      go : (t : ℕ) → t < length sets → (r : List ℕ) → ownersAt sets t ≡ r → getD l t 0 ≡ getD m t 0
+      go : (t : ℕ) → t < length owners → (r : List ℕ) → ownersAt owners t ≡ r → getD l t 0 ≡ getD m t 0
       go t h [] e =
           let a = p .found t h e in
           let b = q .found t h e in
-          omega (arith, a .5, b .5, p .largest-there t (b .0) (b .1) h e (b .2) (b .3), q .largest-there t (a .0) (a .1) h e (a .2) (a .3))
+          omega (arith, a .5, b .5, pl .none-larger t (b .0) (b .1) h e (b .2) (b .3), ql .none-larger t (a .0) (a .1) h e (a .2) (a .3))
       go t h (k ∷ []) e = p .single t k h e ∙ sym (q .single t k h e)
       go t h (k ∷ j ∷ r) e =
-          let two : 2 ≤ length (ownersAt sets t) = omega (arith, ap length e) in
+          let two : 2 ≤ length (ownersAt owners t) = omega (arith, ap length e) in
           let a = p .overlap t h two in
           let b = q .overlap t h two in
           omega (arith, a .1 (getD m t 0) (b .0), b .1 (getD l t 0) (a .0))
 
--- ---- the theorems, for a table that passes rules A, B and C, and the owner sets of its triangles
-module _ (keys : List ℕ) (n : ℕ) (whole : length keys ≡ 3 * n) (area : RuleA (trianglesOf keys)) (once : RuleB (trianglesOf keys)) (framed : RuleC (trianglesOf keys)) (sets : List ℕ) (fit : length sets ≡ n) where
-  -- For each side the number of its reverse.
-  abbrev reverses : List ℕ
-  reverses = opposites (sidesOf (trianglesOf keys))
+  module _ (listed : OwnersListed owners) (pairs : Paired opposite (length owners)) (l : List ℕ) (e : repaired (largest opposite) opposite owners ≡ value l) where
+    -- The answer of repair is such a list,
+    pub largest-there : LargestThere opposite owners l
+    largest-there = record {
+      none-larger = λ t k o h n j d.
+          let numbers = settled owners in
+          let a = largest-above opposite numbers (region opposite numbers t) k (has-side opposite k o d) (in-region (largest opposite) opposite owners listed (largest-chooses opposite) pairs t (k / 3) h j) in
+          let b : getD numbers (o / 3) 0 ≤ largest opposite numbers (region opposite numbers t) = subst (λ x. beyond opposite numbers x ≤ largest opposite numbers (region opposite numbers t)) d a in
+          subst (λ m. getD numbers (o / 3) 0 ≤ m) (sym (one-choice (largest opposite) opposite owners listed (largest-chooses opposite) pairs l e t h n)) b;
+    }
 
-  -- If some triangle has an owner, then one across a side of each gap region has.
-  pub gap-region-owned : (v : ℕ) → v < n → (ownersAt sets v ≡ [] → ⊥) → (t : ℕ) → t < n → ownersAt sets t ≡ []
-      → largest (opposites (sidesOf (trianglesOf keys))) (settled sets) (region (opposites (sidesOf (trianglesOf keys))) (settled sets) t) ≡ 0 → ⊥
-  gap-region-owned v w f t h e =
-      region-owned reverses (settled sets) (subst (Paired reverses) as-many (paired keys n whole once)) (subst (Connects reverses) as-many (connects keys n whole once area framed))
-      v (omega (arith, as-many)) (λ z. f (gap-is reverses sets v .0 (eq-eqb (getD (settled sets) v 0) 0 z))) t (omega (arith, as-many)) (gap-is reverses sets t .1 e)
+    -- and no other is.
+    pub only-repair : (other : List ℕ) → OneOwner opposite owners other → LargestThere opposite owners other → other ≡ l
+    only-repair other q ql = only-one other l q ql (one-owner (largest opposite) opposite owners listed (largest-chooses opposite) pairs l e) largest-there
+
+  -- In a connected table repair answers a list exactly if it is such a list.
+  pub repaired-exactly : OwnersListed owners → Paired opposite (length owners) → Connects opposite (length owners) → 1 ≤ length owners
+      → (l : List ℕ) → (repaired (largest opposite) opposite owners ≡ value l) ↔ (OneOwner opposite owners l × LargestThere opposite owners l)
+  repaired-exactly listed pairs joins some-triangle l = (λ e. (one-owner (largest opposite) opposite owners listed (largest-chooses opposite) pairs l e, largest-there listed pairs l e), from)
     where
-      as-many : n ≡ length (settled sets)
-      as-many = sym (length-settled sets ∙ fit)
-
-  -- The answer of repair gives each triangle one owner, as laid down,
-  pub one-owner : (l : List ℕ) → repaired (opposites (sidesOf (trianglesOf keys))) sets ≡ some l → OneOwner (opposites (sidesOf (trianglesOf keys))) sets l
-  one-owner = repaired-one reverses sets (subst (Paired reverses) (sym fit) (paired keys n whole once)) (subst (Connects reverses) (sym fit) (connects keys n whole once area framed))
-
-  -- and no other list does.
-  pub only-repair : (l other : List ℕ) → repaired (opposites (sidesOf (trianglesOf keys))) sets ≡ some l → OneOwner (opposites (sidesOf (trianglesOf keys))) sets other → other ≡ l
-  only-repair l other e q = only-one reverses sets other l q (one-owner l e)
+      from : OneOwner opposite owners l × LargestThere opposite owners l → repaired (largest opposite) opposite owners ≡ value l
+      from (p, q) =
+          let (u, w, a) = p .owned 0 some-triangle in
+          let r = always-given (largest opposite) opposite owners listed (largest-chooses opposite) pairs joins (u, w, λ e. let z = subst (Among eqb (getD l 0 0)) e a in omega arith) in
+          r ∙ ap value (sym (only-repair listed pairs _ r l p q))

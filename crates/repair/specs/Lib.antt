@@ -2,3 +2,4 @@
 pub mod Repair
 pub mod Giving
 pub mod OneOwner
+pub mod Choosing

@@ -1,15 +1,17 @@
--- Repair: triangles with one owner keep it, an overlap goes to its smallest owner number, and each gap region, a largest group of gap
--- triangles joined through shared sides, goes to the largest number found across its sides once the overlaps are settled.
-use mathlib.Core.Bool.{Bool, false, cond}
+-- Repair: triangles with one owner keep it, an overlap goes to its smallest owner number, and then each gap region, a largest group of gap
+-- triangles joined through shared sides, goes as a whole to the number chosen for it. Document 01's choice is the largest number found across the
+-- region's sides once the overlaps are settled.
+use mathlib.Core.Bool.{Bool, false, not, cond}
 use mathlib.Core.List.{List, [], _∷_, map}
-use mathlib.Core.Option.{Option, none, some}
 use Prim.Native.Nat.{ℕ, zero, suc, _/_}
 use lib.Dec.{eqb, leb}
 use lib.ListN.{length, getD}
 use Rattle.whole.specs.Sums.{every, passing}
+use Rattle.lent.specs.Stages.{Answer, value, andThen, needing, faultless}
+use Rattle.table.specs.Table.{firstFault}
 use Rattle.owners_marks.specs.declared.Standing.{Standing}
 use Rattle.owners_marks.specs.declared.Standing.the-variants.{Gap, Single, Overlap}
-use Rattle.owners_marks.specs.Marks.{standingOf}
+use Rattle.owners_marks.specs.Marks.{standingBy}
 use Rattle.repair_regions.specs.Regions.{from, gap, region}
 
 -- The owner number of a triangle once the overlaps are settled; 0 for a gap.
@@ -18,8 +20,12 @@ settledBy Gap = 0
 settledBy (Single k) = k
 settledBy (Overlap k) = k
 
-abbrev pub settled : List ℕ → List ℕ
-settled = map (λ set. settledBy (standingOf set))
+abbrev pub settled : List (List ℕ) → List ℕ
+settled = map (λ owners. settledBy (standingBy owners))
+
+-- A choice for gap regions: the number given to a group of triangles, by the settled numbers of all triangles; 0 where nobody can be given it.
+abbrev pub Choice : Type 0
+Choice = List ℕ → List Bool → ℕ
 
 -- The greater of two numbers, and the greatest of a list, 0 for none.
 abbrev pub greater : ℕ → ℕ → ℕ
@@ -39,14 +45,28 @@ module _ (opposite numbers : List ℕ) where
   abbrev pub sidesIn : List Bool → List ℕ
   sidesIn group = passing (λ k. getD group (k / 3) false) (from 0 (length opposite))
 
-  -- The largest number found across the sides of a group.
-  abbrev pub largest : List Bool → ℕ
-  largest group = greatest (map (λ k. beyond (getD opposite k 0)) (sidesIn group))
+-- The largest number found across the sides of a group.
+abbrev pub largest : List ℕ → Choice
+largest opposite numbers group = greatest (map (λ k. beyond opposite numbers (getD opposite k 0)) (sidesIn opposite numbers group))
 
-  -- The owner number of a triangle after repair.
-  abbrev pub ownerOf : ℕ → ℕ
-  ownerOf t = cond (gap opposite numbers t) (largest (region opposite numbers t)) (getD numbers t 0)
+module _ (choice : Choice) (opposite : List ℕ) where
+  -- The owner number of a triangle after repair, and those of all triangles; 0 where nobody can be given the triangle.
+  abbrev pub ownerOf : List ℕ → ℕ → ℕ
+  ownerOf numbers t = cond (gap opposite numbers t) (choice numbers (region opposite numbers t)) (getD numbers t 0)
 
--- Repair, from the owner sets: one owner number for each triangle; none where no triangle has an owner.
-unfoldable pub repaired : List ℕ → List ℕ → Option (List ℕ)
-repaired opposite sets = cond (every (eqb 0) (settled sets)) none (some (map (ownerOf opposite (settled sets)) (from 0 (length sets))))
+  abbrev pub numbersGiven : List ℕ → List ℕ
+  numbersGiven numbers = map (ownerOf numbers) (from 0 (length numbers))
+
+-- Nobody can be given the triangle.
+abbrev pub ungiven : List ℕ → ℕ → Bool
+ungiven before number = eqb number 0
+
+-- 31 with the first triangle, counted from 1, that nobody can be given.
+abbrev pub allGiven : List ℕ → Answer (List ℕ)
+allGiven numbers = andThen (faultless 31 (firstFault ungiven [] numbers)) (λ passed. value numbers)
+
+-- Repair, from the owners of each triangle: one owner number for each. 30 where no triangle has an owner.
+unfoldable pub repaired : Choice → List ℕ → List (List ℕ) → Answer (List ℕ)
+repaired choice opposite owners =
+    andThen (needing (not (every (eqb 0) (settled owners))) 30 0)
+    (λ passed. allGiven (numbersGiven choice opposite (settled owners)))

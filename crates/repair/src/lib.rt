@@ -1,15 +1,16 @@
 // Repair: overlaps settled to their smallest owner number, and each gap region given to the largest number across its sides.
 ghost use mathlib.Core.Path.{_≡_};
 ghost use mathlib.Core.Bool.{false};
-ghost use mathlib.Core.List.{map};
+ghost use mathlib.Core.List.{[], map};
 ghost use Prim.Native.Nat.{ℕ, _*_, _+_, _≤_, _<_};
 ghost use lib.Dec.{eqb};
 ghost use lib.ListN.{length, getD, replicate};
 ghost use Rattle.whole.specs.Sums.{every};
-ghost use Rattle.owners_marks.specs.Marks.{standingOf};
-ghost use Rattle.repair_regions.specs.Regions.{from};
+ghost use Rattle.table.specs.Table.{firstFault};
+ghost use Rattle.table.specs.Sides.{itemOf};
+ghost use Rattle.owners_marks.specs.Sets.{ownersOf, standingOf};
 ghost use Rattle.repair_regions.specs.Spreading.{Paired};
-ghost use Rattle.repair.specs.Repair.{settledBy, settled, greater, beyond, ownerOf, repaired};
+ghost use Rattle.repair.specs.Repair.{settledBy, settled, largest, greater, beyond, numbersGiven, ungiven};
 ghost use Rattle.repair.specs.Giving.{RepairedTo, Best, Filled, State, Further};
 
 // The owner number of a triangle once the overlaps are settled; 0 for a gap.
@@ -26,7 +27,7 @@ fn owner_of(set: u64) -> u8
 // The owner number of each triangle once the overlaps are settled.
 fn settle(sets: &[u64], numbers: &mut [u8])
     requires { ⌜ length (now sets) ≡ length (now numbers) ⌝ }
-    ensures { λ _. ⌜ now (numbers .exit) ≡ settled (now (sets .entry)) ⌝ }
+    ensures { λ _. ⌜ now (numbers .exit) ≡ settled (map ownersOf (now (sets .entry))) ⌝ }
 {
     let mut t: usize = 0;
     while t < numbers.len() {
@@ -100,8 +101,8 @@ fn give(
     first: usize,
     owners: &mut [u8],
 ) -> usize
-    requires { ⌜ Paired (now opposite) (length (now numbers)) × State (now opposite) (now numbers) (now met) (now group) first (now owners) × (t < length (now numbers)) ⌝ }
-    ensures { λ r. ⌜ State (now (opposite .entry)) (now (numbers .entry)) (now (met .exit)) (now (group .exit)) r (now (owners .exit))
+    requires { ⌜ Paired (now opposite) (length (now numbers)) × State (largest (now opposite)) (now opposite) (now numbers) (now met) (now group) first (now owners) × (t < length (now numbers)) ⌝ }
+    ensures { λ r. ⌜ State (largest (now (opposite .entry))) (now (opposite .entry)) (now (numbers .entry)) (now (met .exit)) (now (group .exit)) r (now (owners .exit))
         × Further (now (numbers .entry)) (now (met .entry)) (now (met .exit)) t ⌝ }
 {
     if numbers[t] != 0 {
@@ -125,7 +126,7 @@ fn give_all(
     owners: &mut [u8],
 )
     requires { ⌜ Paired (now opposite) (length (now numbers)) × (now met ≡ replicate (length (now numbers)) false) × (length (now group) ≡ length (now numbers)) × (now owners ≡ now numbers) ⌝ }
-    ensures { λ _. ⌜ now (owners .exit) ≡ map (ownerOf (now (opposite .entry)) (now (numbers .entry))) (from 0 (length (now (numbers .entry)))) ⌝ }
+    ensures { λ _. ⌜ now (owners .exit) ≡ numbersGiven (largest (now (opposite .entry))) (now (opposite .entry)) (now (numbers .entry)) ⌝ }
 {
     let mut n: usize = 0;
     let mut t: usize = 0;
@@ -149,10 +150,31 @@ fn none_owned(numbers: &[u8]) -> bool
     true
 }
 
-// Repair: the owner number of each triangle, from the owner sets. False where no triangle has an owner: repair can't be done, and the list is as it was.
-pub fn repair(opposite: &[usize], sets: &[u64], owners: &mut [u8]) -> bool
+// The first triangle, counted from 1, that nobody could be given; 0 where there is none.
+fn first_ungiven(owners: &[u8]) -> usize
+    ensures { λ r. ⌜ (r ≡ itemOf (firstFault ungiven [] (now (owners .entry)))) × (r ≤ length (now (owners .entry))) ⌝ }
+{
+    let mut t: usize = 0;
+    while t < owners.len() {
+        if owners[t] == 0 {
+            return t + 1;
+        }
+        t += 1;
+    }
+    0
+}
+
+// What repair comes to: it is done, or is refused with a code and an item.
+pub enum Repaired {
+    Done,
+    Refused(u32, u32),
+}
+
+// Repair: the owner number of each triangle, from the owner sets. 30 where no triangle has an owner, and the list is as it was; 31 with the first
+// triangle that nobody can be given, and the list has the numbers given.
+pub fn repair(opposite: &[usize], sets: &[u64], owners: &mut [u8]) -> Repaired
     requires { ⌜ Paired (now opposite) (length (now sets)) × (length (now owners) ≡ length (now sets)) × (length (now sets) ≤ 1024) ⌝ }
-    ensures { λ r. ⌜ RepairedTo (repaired (now (opposite .entry)) (now (sets .entry))) (now (owners .entry)) r (now (owners .exit)) ⌝ }
+    ensures { λ r. ⌜ RepairedTo (largest (now (opposite .entry))) (now (opposite .entry)) (map ownersOf (now (sets .entry))) (now (owners .entry)) r (now (owners .exit)) ⌝ }
 {
     let n = sets.len();
     let mut numbers = [0u8; 1024];
@@ -160,7 +182,7 @@ pub fn repair(opposite: &[usize], sets: &[u64], owners: &mut [u8]) -> bool
     let mut group = [0usize; 1024];
     settle(sets, &mut numbers[..n]);
     if none_owned(&numbers[..n]) {
-        return false;
+        return Repaired::Refused(30, 0);
     }
     settle(sets, owners);
     give_all(
@@ -170,5 +192,9 @@ pub fn repair(opposite: &[usize], sets: &[u64], owners: &mut [u8]) -> bool
         &mut group[..n],
         owners,
     );
-    true
+    let t = first_ungiven(owners);
+    if t != 0 {
+        return Repaired::Refused(31, t as u32);
+    }
+    Repaired::Done
 }

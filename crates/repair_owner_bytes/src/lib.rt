@@ -1,19 +1,23 @@
 // The number of each triangle after repair, written over lent bytes.
+ghost use mathlib.Core.List.{map};
 ghost use Prim.Native.Nat.{_≤_};
 ghost use lib.ListN.{length};
 ghost use Rattle.lent.specs.Answered.{Answered};
+ghost use Rattle.owners_marks.specs.Sets.{ownersOf};
 ghost use Rattle.repair_regions.specs.Spreading.{Paired};
+ghost use Rattle.repair.specs.Repair.{largest};
 ghost use Rattle.repair_answers.specs.Held.{ownersOutcome};
 
-// One byte per triangle in table order, its number after repair; 30 where repair can't be done.
+// One byte per triangle in table order, its number after repair; a refusal of repair is passed on.
 pub fn owners(opposite: &[usize], sets: &[u64], out: &mut [u8]) -> u64
     requires { ⌜ Paired (now opposite) (length (now sets)) × (length (now sets) ≤ 1024) ⌝ }
-    ensures { λ r. ⌜ Answered (ownersOutcome (now (opposite .entry)) (now (sets .entry))) (now (out .entry)) r (now (out .exit)) ⌝ }
+    ensures { λ r. ⌜ Answered (ownersOutcome (largest (now (opposite .entry))) (now (opposite .entry)) (map ownersOf (now (sets .entry)))) (now (out .entry)) r (now (out .exit)) ⌝ }
 {
     let n = sets.len();
     let mut owners = [0u8; 1024];
-    if !repair::repair(opposite, sets, &mut owners[..n]) {
-        return 30;
+    let repaired = repair::repair(opposite, sets, &mut owners[..n]);
+    if let repair::Repaired::Refused(code, item) = repaired {
+        return item as u64 * 256 + code as u64;
     }
     if out.len() < n {
         return 40;

@@ -1,13 +1,15 @@
 // The boundary sides of a polygon after repair, written over lent bytes.
 ghost use mathlib.Core.Path.{_≡_};
-ghost use mathlib.Core.List.{flatMap, _++_};
+ghost use mathlib.Core.List.{flatMap, map, _++_};
 ghost use Prim.Native.Nat.{_+_, _*_, _≤_};
 ghost use lib.ListN.{length, drop};
 ghost use lib.Seq.{sets};
 ghost use Rattle.whole.specs.Sums.{All};
 ghost use Rattle.lent_little.specs.Held.{SideIn, sideHeld};
 ghost use Rattle.lent.specs.Answered.{Answered};
+ghost use Rattle.owners_marks.specs.Sets.{ownersOf};
 ghost use Rattle.repair_regions.specs.Spreading.{Paired};
+ghost use Rattle.repair.specs.Repair.{largest};
 ghost use Rattle.repair_answers.specs.Held.{sidesOutcome};
 
 // Writes side k of the table, off the numbers form: the coordinates of corner k, then those of the next corner of its triangle.
@@ -35,8 +37,8 @@ fn write_sides(numbers: &[u32], sides: &[usize], out: &mut [u8])
     }
 }
 
-// Each side uv of the polygon's triangles after repair whose vu is no side of those, 16 bytes each, by triangle and then ab, bc, ca; 30 where
-// repair can't be done.
+// Each side uv of the polygon's triangles after repair whose vu is no side of those, 16 bytes each, by triangle and then ab, bc, ca; a
+// refusal of repair is passed on.
 pub fn boundary(
     numbers: &[u32],
     opposite: &[usize],
@@ -45,14 +47,15 @@ pub fn boundary(
     out: &mut [u8],
 ) -> u64
     requires { ⌜ Paired (now opposite) (length (now sets)) × (length (now sets) ≤ 1024) × (1 + 6 * length (now sets) ≤ length (now numbers)) ⌝ }
-    ensures { λ r. ⌜ Answered (sidesOutcome (now (numbers .entry)) (now (opposite .entry)) (now (sets .entry)) polygon) (now (out .entry)) r (now (out .exit)) ⌝ }
+    ensures { λ r. ⌜ Answered (sidesOutcome (now (numbers .entry)) (largest (now (opposite .entry))) (now (opposite .entry)) (map ownersOf (now (sets .entry))) polygon) (now (out .entry)) r (now (out .exit)) ⌝ }
 {
     let n = sets.len();
     let m = opposite.len();
     let mut owners = [0u8; 1024];
     let mut sides = [0usize; 3072];
-    if !repair::repair(opposite, sets, &mut owners[..n]) {
-        return 30;
+    let repaired = repair::repair(opposite, sets, &mut owners[..n]);
+    if let repair::Repaired::Refused(code, item) = repaired {
+        return item as u64 * 256 + code as u64;
     }
     let k = repair_sides::boundary(opposite, &owners[..n], polygon, &mut sides[..m]);
     if out.len() / 16 < k {

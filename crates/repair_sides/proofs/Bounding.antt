@@ -25,7 +25,7 @@ use Rattle.plane.specs.Members.{edges, doubleArea}
 use Rattle.plane.proofs.Points.{sameEdge-eq}
 use Rattle.plane.proofs.Boundaries.{areas, cross-flip, cross-adds}
 use Rattle.plane.proofs.Cuts.{pieces-sum}
-use Rattle.table.specs.Table.{corners, frame, RuleB, RuleC}
+use Rattle.table.specs.Table.{corners, frameOf, rectangle, frameEdges, RuleB, RuleC}
 use Rattle.table.specs.Sets.{SetOf, chosen}
 use Rattle.table.specs.Sides.{trianglesOf, sideAt, across}
 use Rattle.table.specs.Opposites.{opposites}
@@ -320,14 +320,14 @@ pub areas-after : (table : List Triangle) (owners : List ℕ) (m : ℕ) → leng
 areas-after table owners m e h = owners-sum double m table owners e h
 
 -- With rule C the triangles of the table have the double area of the frame.
-pub frame-area : (table : List Triangle) → RuleC table → sum double table ≡ doubleArea ((frame (corners table) ∷ []) ∷ [])
+pub frame-area : (table : List Triangle) → RuleC (frameEdges table) table → sum double table ≡ doubleArea ((rectangle (frameOf (corners table)) ∷ []) ∷ [])
 unfolding doubleArea flatMap
 frame-area table c =
-    areas table (allPieces (corners table) (edges (frame (corners table)))) c
-    ∙ pieces-sum cross cross-flip cross-adds (corners table) (edges (frame (corners table)))
-    ∙ ap (sum cross) (sym (append-nil (edges (frame (corners table)) ++ []) ∙ append-nil (edges (frame (corners table)))))
+    areas table (allPieces (corners table) (frameEdges table)) c
+    ∙ pieces-sum cross cross-flip cross-adds (corners table) (frameEdges table)
+    ∙ ap (sum cross) (sym (append-nil (frameEdges table ++ []) ∙ append-nil (frameEdges table)))
 
 -- With rule C the double areas of the m polygons add up to the frame's.
-pub frame-after : (table : List Triangle) (owners : List ℕ) (m : ℕ) → length owners ≡ length table → All (λ o. (1 ≤ o) × (o ≤ m)) owners → RuleC table
-    → sum (λ p. sum double (trianglesOwned table owners p)) (from 1 m) ≡ doubleArea ((frame (corners table) ∷ []) ∷ [])
+pub frame-after : (table : List Triangle) (owners : List ℕ) (m : ℕ) → length owners ≡ length table → All (λ o. (1 ≤ o) × (o ≤ m)) owners → RuleC (frameEdges table) table
+    → sum (λ p. sum double (trianglesOwned table owners p)) (from 1 m) ≡ doubleArea ((rectangle (frameOf (corners table)) ∷ []) ∷ [])
 frame-after table owners m e h c = areas-after table owners m e h ∙ frame-area table c

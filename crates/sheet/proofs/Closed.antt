@@ -6,15 +6,15 @@ use mathlib.Core.Bool.{Bool, true, _&&_, and-eq-true-iff}
 use mathlib.Core.List.{List}
 use Prim.Native.Nat.{ℕ, zero, suc, _+_, _-_, _<_}
 use native.Mathlib.Omega.{arith}
-use borrow.Author.Tests.{ltb-true, ltb-false, lt-ltb, leb-true, eqb-true}
+use borrow.Author.Tests.{leb-true, eqb-true}
 use lib.Dec.{ltb, eqb}
 use Rattle.whole.proofs.Tests.{by-equal, by-cond}
-use Rattle.lent_little.specs.Ordered.{remains, wordAt}
 use Rattle.wkb.specs.declared.Cursor.{Cursor}
 use Rattle.wkb.specs.declared.Step.{Step}
 use Rattle.wkb.specs.declared.Step.the-variants.{Geometry, Ring, Point, End, Refused}
 use Rattle.wkb.specs.Places.{moved, pointsToCome, polygonToCome}
-use Rattle.wkb.specs.Steps.{complete, renewed, ringFits, withPoints, ringAt, afterPoint, pointAt, stepAt}
+use Rattle.wkb.specs.Steps.{complete, renewed, ringFits, withPoints, afterPoint, stepAt}
+use Rattle.wkb.proofs.Cases.{named-some, by-case}
 use Rattle.wkb.proofs.Complete.{not-complete}
 use Rattle.sheet.specs.declared.Build.{Build}
 use Rattle.sheet.specs.declared.Turn.{Turn}
@@ -74,13 +74,13 @@ point-nearer c l = go (c .rings + (c .points - 1)) refl
 
 -- ---- a step
 pub step-inside : (s : List ℕ) (c : Cursor) → 0 < c .rings + c .points → Inside c (stepAt s c)
-unfolding stepAt pointAt ringAt
-step-inside s c o =
-    by-equal (Inside c) (ltb 0 (c .points)) _ _
-    (λ e. by-cond (Inside c) (remains s (c .at) 16) _ _ (λ t. point-nearer c (ltb-true 0 (c .points) e)) (λ z. omega arith))
-    (λ e. let p = ltb-false 0 (c .points) e in
-    rw (lt-ltb 0 (c .rings) (omega arith))
-    (by-cond (Inside c) (remains s (c .at) 4) _ _ (λ t. by-equal (Inside c) (ringFits c (wordAt (c .little) s (c .at))) _ _ (λ f. ring-nearer c (wordAt (c .little) s (c .at)) (ring-some c (wordAt (c .little) s (c .at)) f)) (λ f z. omega arith)) (λ z. omega arith)))
+step-inside s c o = by-case (Inside c) s c (record {
+  refused = named-some;
+  point = λ p l. point-nearer c p;
+  ring = λ p r l n f. ring-nearer c n (ring-some c n f);
+  end = λ p r t. absurd (omega arith);
+  geometry = λ p r t l little kind n k f. omega arith;
+})
 
 -- Where the code goes on from there, and where it is over.
 module _ (s : List ℕ) (c : Cursor) (b : Build) (a : Step) (r : Turn) (o : 0 < c .rings + c .points) (e : a ≡ stepAt s c) (h : Leads a b r) where

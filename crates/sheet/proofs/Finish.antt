@@ -12,6 +12,7 @@ use denote.Enum.Declared.{tagOf}
 use lib.Dec.{ltb, eqb}
 use lib.ListN.{length}
 use Rattle.whole.proofs.Tests.{by-equal}
+use Rattle.plane.specs.Corners.{offset}
 use Rattle.wkb.specs.declared.Cursor.{Cursor}
 use Rattle.wkb.specs.declared.Step.{Step}
 use Rattle.wkb.specs.declared.Step.the-variants.{Geometry, Ring, Point, End, Refused}
@@ -31,13 +32,13 @@ use Rattle.sheet.proofs.Onward.{Trail, Stops}
 abbrev pub empty : Build
 empty = record { fill = 0; mark = 0; first = false; x = 0; y = 0 }
 
-pub begun : (s : List ℕ) → Within s start empty
-begun s = record { sane = record { polygons = omega arith; members = omega arith }; filled = omega arith; inside = omega arith }
+pub begun : (limit : ℕ) (s : List ℕ) → limit ≤ offset → Within s (start limit) empty
+begun limit s h = record { sane = record { polygons = omega arith; members = omega arith; limit = h }; filled = omega arith; inside = omega arith }
 
 -- The sheet stands there, with five levels inside.
-pub sheet-stands : (depth : ℕ) → 5 ≤ depth → Begins depth start
+pub sheet-stands : (limit depth : ℕ) → 5 ≤ depth → Begins depth (start limit)
 unfolding levels slotOf complete
-sheet-stands depth l = record { no-rings = refl; no-points = refl; more = refl; alone = λ t. refl; deep = l }
+sheet-stands limit depth l = record { no-rings = refl; no-points = refl; more = refl; alone = λ t. refl; deep = l }
 
 shown : (numbers : List ℕ) → Shows numbers nothing empty numbers
 shown numbers = record { fill = refl; laid-over = sym (laid-none numbers); mark = refl; first = refl; x = refl; y = refl }
@@ -80,19 +81,19 @@ not-the-end a d t e =
     ⊎-elim (λ z. omega arith) (⊎-elim (λ z. omega arith) (⊎-elim (λ z. omega arith) (λ z. omega arith))) k
 
 -- ---- the end
-module _ (s numbers : List ℕ) where
+module _ (limit : ℕ) (s numbers : List ℕ) where
   -- What was read from the beginning to the last step.
-  module _ (c : Cursor) (b : Build) (more : List ℕ) (h : Trail s start empty numbers c b more) (l : Last (stepAt s c)) where
-    comes-to : (u : Taken) × Shows numbers u b more × (readingOf s ≡ ended (stepAt s c) u)
-    comes-to = let w = h .leads nothing numbers (shown numbers) in (w .0, w .1, reading-starts s ∙ sym (w .2) ∙ last-ends s c (w .0) l)
+  module _ (c : Cursor) (b : Build) (more : List ℕ) (h : Trail s (start limit) empty numbers c b more) (l : Last (stepAt s c)) where
+    comes-to : (u : Taken) × Shows numbers u b more × (readingOf limit s ≡ ended (stepAt s c) u)
+    comes-to = let w = h .leads nothing numbers (shown numbers) in (w .0, w .1, reading-starts limit s ∙ sym (w .2) ∙ last-ends s c (w .0) l)
 
-    pub ends-sheet : (d : Cursor) → stepAt s c ≡ End d → (Sheet (b .fill) ≡ readOf (readingOf s)) × (more ≡ laid (readingOf s .numbers) numbers)
+    pub ends-sheet : (d : Cursor) → stepAt s c ≡ End d → (Sheet (b .fill) ≡ readOf (readingOf limit s)) × (more ≡ laid (readingOf limit s .numbers) numbers)
     ends-sheet d e =
         let w = comes-to in
-        let q : readingOf s ≡ ended (End d) (w .0) = w .2 ∙ ap (λ a. ended a (w .0)) e in
+        let q : readingOf limit s ≡ ended (End d) (w .0) = w .2 ∙ ap (λ a. ended a (w .0)) e in
         rw q (ap Sheet (w .1 .fill), w .1 .laid-over)
 
-    pub ends-seven : ((d : Cursor) → stepAt s c ≡ End d → ⊥) → (Refusal 7 0 ≡ readOf (readingOf s)) × (more ≡ laid (readingOf s .numbers) numbers)
+    pub ends-seven : ((d : Cursor) → stepAt s c ≡ End d → ⊥) → (Refusal 7 0 ≡ readOf (readingOf limit s)) × (more ≡ laid (readingOf limit s .numbers) numbers)
     ends-seven f = let w = comes-to in rw (w .2) (go (stepAt s c) l f (w .0) (w .1 .laid-over))
       where
         go : (a : Step) → Last a → ((d : Cursor) → a ≡ End d → ⊥) → (u : Taken) → more ≡ laid (u .numbers) numbers → (Refusal 7 0 ≡ readOf (ended a u)) × (more ≡ laid (u .numbers) numbers)
@@ -103,7 +104,7 @@ module _ (s numbers : List ℕ) where
         go (Refused code item d) l f u k = (rw (l .0, l .1), k)
 
   -- Reading that was over with a refusal.
-  pub ends-refused : (code item : ℕ) (more : List ℕ) → (code ≡ 0 → ⊥) × Stops s start empty numbers code item more → (Refusal code item ≡ readOf (readingOf s)) × (more ≡ laid (readingOf s .numbers) numbers)
+  pub ends-refused : (code item : ℕ) (more : List ℕ) → (code ≡ 0 → ⊥) × Stops s (start limit) empty numbers code item more → (Refusal code item ≡ readOf (readingOf limit s)) × (more ≡ laid (readingOf limit s .numbers) numbers)
   ends-refused code item more h =
       let w = h .1 .ends nothing numbers (shown numbers) in
-      rw (reading-starts s) (rw (ne-eqb (reading s start nothing .code) 0 (λ z. h .0 (w .0 ∙ z))) (ap₂ Refusal (w .0) (w .1)), w .2)
+      rw (reading-starts limit s) (rw (ne-eqb (reading s (start limit) nothing .code) 0 (λ z. h .0 (w .0 ∙ z))) (ap₂ Refusal (w .0) (w .1)), w .2)

@@ -1,12 +1,12 @@
--- A sheet has at most 16450 numbers: 6146 of the table, one for each of 64 members, and five halves for each of 4096 points. The bound of
--- `Sized` is kept by each turn, and reading is over with code 0 only where no ring is to come. Assumes nothing.
-use mathlib.Core.Path.{_≡_, refl, subst}
+-- A sheet has at most 16385 numbers and as many as it may have members: 6146 of the table, one for each member behind it, and five halves for
+-- each of 4096 points. The bound of `Sized` is kept by each turn, and reading is over with code 0 only where no ring is to come. Assumes nothing.
+use mathlib.Core.Path.{_≡_, refl, _∙_, ap, subst}
 use mathlib.Core.Bool.{Bool, true, false, not, cond, _&&_}
 use mathlib.Core.List.{List, [], _∷_, _++_}
 use Prim.Native.Nat.{ℕ, zero, suc, _+_, _*_, _≤_, _<_}
 use native.Mathlib.Omega.{arith}
 use lib.Dec.{T, leb, ltb, eqb, leb→le, ltb→lt, nltb→le, eqb→eq, T-not, not-T}
-use lib.ListN.{length, getD, set, length-set}
+use lib.ListN.{length, set, length-set}
 use Rattle.whole.proofs.Tests.{by-cond, by-test}
 use Rattle.sheet_coordinate.specs.Coordinate.{coordinateOf}
 use Rattle.sheet_coordinate.specs.declared.Coordinate.{Coordinate}
@@ -16,9 +16,10 @@ use Rattle.wkb.specs.declared.Cursor.{Cursor}
 use Rattle.wkb_kinds.specs.declared.Slot.{Slot}
 use Rattle.wkb_kinds.specs.declared.Slot.the-variants.{Sheet, Table, Piece, Part, Member}
 use Rattle.wkb.specs.declared.Step.{Step}
-use Rattle.lent_little.specs.Ordered.{remains, wordAt, doubleAt}
-use Rattle.wkb.specs.Steps.{start, slotOf, complete, kindFault, countFits, popped, withRings, withParts, withSheet, fewerParts, opened, geometryAt, ringFits, ringAt, afterPoint, pointAt, endAt, stepAt}
+use Rattle.lent_little.specs.Ordered.{doubleAt}
+use Rattle.wkb.specs.Steps.{start, slotOf, complete, countFits, popped, withRings, withParts, withSheet, fewerParts, opened, afterPoint}
 use Rattle.wkb.proofs.Steps.{pops, members-opened}
+use Rattle.wkb.proofs.Cases.{passed, named-some, by-case}
 use Rattle.sheet.specs.Reading.{Taken, Reading, Turn, on, over, held, begin, polygon, opening, noted, judged, taken, turn, run, readingOf, nothing}
 use Rattle.sheet.proofs.Sized.{same, other, is-yes, is-no, sheet, first, table, after, Sized, at-most, one-more, point-sized, ring-sized}
 
@@ -60,42 +61,46 @@ polygon-adds c n b = omega (arith, one-more (set (b .numbers) (b .mark) (held (c
 
 module _ (c : Cursor) (little : Bool) (kind n : ℕ) (p : c .points ≡ 0) (r : c .rings ≡ 0) where
   -- The member's own header adds one number, and a polygon another.
-  member-stage : (f : ℕ) → 2 ≤ c .member → 1 ≤ n → Sized c f → Sized (opened Member c little kind n) (f + cond (c .header) 1 0 + cond (eqb kind 3) 1 0)
+  member-stage : {limit : ℕ} (f : ℕ) → 2 ≤ c .member → 1 ≤ n → Sized limit c f → Sized limit (opened Member c little kind n) (f + cond (c .header) 1 0 + cond (eqb kind 3) 1 0)
   unfolding opened withRings withParts
-  member-stage f m l h =
+  member-stage {limit} f m l h =
       let q = pops c in
       let shut : _≡_ {A = ℕ} (cond (popped c .header) 1 0) 0 = rw (q .header) in
       let o = h .members in
       let w = h .total in
+      let i : popped c .limit ≡ limit = q .limit ∙ h .is-limit in
       let x : 2 * f + 2 * cond (c .header) 1 0 + 2 ≤ 12292 + 2 * c .member + 5 * c .total = elim (h .stage) [ sheet a s e ↦ absurd (omega arith) | first a s e k ↦ absurd (omega arith) | table a s e k ↦ absurd (omega arith) | after a e ↦ omega arith ] in
-      by-test (λ (d : Cursor). Sized d (f + cond (c .header) 1 0 + cond (eqb kind 3) 1 0)) (eqb kind 3) _ _ (λ t.
+      by-test (λ (d : Cursor). Sized limit d (f + cond (c .header) 1 0 + cond (eqb kind 3) 1 0)) (eqb kind 3) _ _ (λ t.
       let y = is-yes {A = ℕ} (eqb kind 3) 1 0 t in
-      record { members = omega arith; total = omega arith; stage = after (omega arith) (omega arith) }) (λ t.
+      record { is-limit = i; members = omega arith; total = omega arith; stage = after (omega arith) (omega arith) }) (λ t.
       let y = is-no {A = ℕ} (eqb kind 3) 1 0 t in
-      by-cond (λ (d : Cursor). Sized d (f + cond (c .header) 1 0 + cond (eqb kind 3) 1 0)) (eqb kind 6) _ _ (λ z.
-      record { members = omega arith; total = omega arith; stage = after (omega arith) (omega arith) })
-      (members-opened (λ (d : Cursor). Sized d (f + cond (c .header) 1 0 + cond (eqb kind 3) 1 0)) c n (popped c)
-      (record { members = omega arith; total = omega arith; stage = after (omega arith) (omega arith) })
-      (record { members = omega arith; total = omega arith; stage = after (omega arith) (omega arith) })
-      (record { members = omega arith; total = omega arith; stage = after (omega arith) (omega arith) })))
+      by-cond (λ (d : Cursor). Sized limit d (f + cond (c .header) 1 0 + cond (eqb kind 3) 1 0)) (eqb kind 6) _ _ (λ z.
+      record { is-limit = i; members = omega arith; total = omega arith; stage = after (omega arith) (omega arith) })
+      (members-opened (λ (d : Cursor). Sized limit d (f + cond (c .header) 1 0 + cond (eqb kind 3) 1 0)) c n (popped c)
+      (record { is-limit = i; members = omega arith; total = omega arith; stage = after (omega arith) (omega arith) })
+      (record { is-limit = i; members = omega arith; total = omega arith; stage = after (omega arith) (omega arith) })
+      (record { is-limit = i; members = omega arith; total = omega arith; stage = after (omega arith) (omega arith) })))
 
   -- Each geometry's header keeps the bound. The table has one header, since it is complete where nothing of it is left.
-  opened-sized : (slot : Slot) (b : Taken) → At c slot → T (not (not (eqb (c .member) 0) && complete c)) → T (countFits slot n) → Sized c (length (b .numbers))
-      → Sized (opened slot c little kind n) (length (opening slot c (opened slot c little kind n) kind n b .numbers))
+  opened-sized : {limit : ℕ} (slot : Slot) (b : Taken) → At c slot → T (not (not (eqb (c .member) 0) && complete c)) → T (countFits (c .limit) slot n) → Sized limit c (length (b .numbers))
+      → Sized limit (opened slot c little kind n) (length (opening slot c (opened slot c little kind n) kind n b .numbers))
   unfolding opened opening withRings withParts withSheet fewerParts countFits popped
   opened-sized Sheet b m i t h =
-      let l = leb→le n 65 (and-right (leb 1 n) (leb n 65) t) in
-      let k = leb→le 1 n (and-left (leb 1 n) (leb n 65) t) in
+      let l = leb→le n (c .limit) (and-right (leb 1 n) (leb n (c .limit)) t) in
+      let k = leb→le 1 n (and-left (leb 1 n) (leb n (c .limit)) t) in
+      let i = h .is-limit in
       record {
+        is-limit = h .is-limit;
         members = omega arith;
         total = h .total;
         stage = elim (h .stage) [ sheet a s e ↦ first refl s e tt | first a s e k ↦ absurd (omega arith) | table a s e k ↦ absurd (omega arith) | after a e ↦ absurd (omega arith) ];
       }
-  opened-sized Table b m i t h =
+  opened-sized {limit} Table b m i t h =
       let l = leb→le n 1024 (and-right (leb 2 n) (leb n 1024) t) in
       let o = one-more (b .numbers) (held n) in
-      by-test (λ (d : Cursor). Sized (withParts n d) (length (b .numbers ++ held n ∷ []))) (c .header) _ _ (λ y.
+      by-test (λ (d : Cursor). Sized limit (withParts n d) (length (b .numbers ++ held n ∷ []))) (c .header) _ _ (λ y.
       record {
+        is-limit = h .is-limit;
         members = h .members;
         total = h .total;
         stage = elim (h .stage) [ sheet a s e ↦ absurd (omega arith) | first a s e k ↦ table a s (omega arith) tt | table a s e k ↦ absurd (T-not (c .header) k y) | after a e ↦ absurd (omega arith) ];
@@ -110,6 +115,7 @@ module _ (c : Cursor) (little : Bool) (kind n : ℕ) (p : c .points ≡ 0) (r : 
   opened-sized Piece b m i t h =
       let l = eqb→eq n 1 t in
       record {
+        is-limit = h .is-limit;
         members = h .members;
         total = h .total;
         stage = elim (h .stage) [ sheet a s e ↦ absurd (omega arith) | first a s e k ↦ absurd (omega arith) | table a s e k ↦ table a s (omega arith) k | after a e ↦ absurd (omega arith) ];
@@ -118,12 +124,13 @@ module _ (c : Cursor) (little : Bool) (kind n : ℕ) (p : c .points ≡ 0) (r : 
       let l = leb→le 1 n (and-left (leb 1 n) (leb n 64) t) in
       let q = polygon-adds (opened Part c little kind n) n b in
       record {
+        is-limit = h .is-limit;
         members = h .members;
         total = h .total;
         stage = elim (h .stage) [ sheet a s e ↦ absurd (omega arith) | first a s e k ↦ absurd (omega arith) | table a s e k ↦ absurd (omega arith) | after a e ↦ after a (omega arith) ];
       }
-  opened-sized Member b m i t h =
-      subst (Sized (opened Member c little kind n)) (grown (c .header) (eqb kind 3)) (member-stage (length (b .numbers)) m (leb→le 1 n (and-left (leb 1 n) (leb n 64) t)) h)
+  opened-sized {limit} Member b m i t h =
+      subst (Sized limit (opened Member c little kind n)) (grown (c .header) (eqb kind 3)) (member-stage (length (b .numbers)) m (leb→le 1 n (and-left (leb 1 n) (leb n 64) t)) h)
     where
       own : (x : Bool) → length (b .numbers) + cond x 1 0 ≡ length (cond x (begin b) b .numbers)
       own true = omega (arith, one-more (b .numbers) (held 0))
@@ -135,67 +142,42 @@ module _ (c : Cursor) (little : Bool) (kind n : ℕ) (p : c .points ≡ 0) (r : 
 
 -- ---- a turn
 -- Reading goes on with the bound, or is over within it.
-abbrev Good : Turn → Type 0
-Good (on c b) = Sized c (length (b .numbers))
-Good (over r) = r .code ≡ 0 → length (r .numbers) ≤ 16450
+abbrev Good : ℕ → Turn → Type 0
+Good limit (on c b) = Sized limit c (length (b .numbers))
+Good limit (over r) = r .code ≡ 0 → length (r .numbers) ≤ 16385 + limit
 
 -- A turn with this answer of a step does so.
-abbrev Led : Cursor → Taken → Step → Type 0
-Led c b a = Good (taken c b a)
+abbrev Led : ℕ → Cursor → Taken → Step → Type 0
+Led limit c b a = Good limit (taken c b a)
 
-module _ (s : List ℕ) (c : Cursor) (b : Taken) (h : Sized c (length (b .numbers))) where
-  point-fine : 0 < c .points → Led c b (pointAt s c)
-  unfolding taken pointAt judged
-  point-fine l =
-      by-cond (Led c b) (remains s (c .at) 16) _ _ (λ t. go (coordinateOf (doubleAt (c .little) s (c .at))) (coordinateOf (doubleAt (c .little) s (c .at + 8)))) (λ e. absurd (omega arith))
+module _ {limit : ℕ} (s : List ℕ) (c : Cursor) (b : Taken) (h : Sized limit c (length (b .numbers))) where
+  turn-good : Good limit (turn s c b)
+  unfolding turn taken judged
+  turn-good = by-case (Led limit c b) s c (record {
+    refused = λ code t e. absurd (named-some code t e);
+    point = λ p l. go p (coordinateOf (doubleAt (c .little) s (c .at))) (coordinateOf (doubleAt (c .little) s (c .at + 8)));
+    ring = λ p r l n f. ring-sized c n b p r (passed f) h;
+    end = λ p r t. (λ e. at-most c (length (b .numbers)) r h, λ e. absurd (omega arith));
+    geometry = λ p r t l little kind n k f. opened-sized c little kind n p r (slotOf c) b (slot-at c) (passed (ap not t)) (passed f) h;
+  })
     where
-      go : (x y : Coordinate) → Good (judged c (afterPoint c) b x y)
-      go Not y = λ e. absurd (omega arith)
-      go (Whole x) Not = λ e. absurd (omega arith)
-      go (Whole x) (Whole y) =
-          by-cond Good (eqb (c .points) 1 && not (eqb x (noted x y b .x) && eqb y (noted x y b .y))) _ _ (λ t e. absurd (omega arith)) (point-sized c x y b l h)
-
-  geometry-fine : c .points ≡ 0 → c .rings ≡ 0 → T (not (not (eqb (c .member) 0) && complete c)) → Led c b (geometryAt s c)
-  unfolding taken geometryAt
-  geometry-fine p r i =
-      let m = at-most c (length (b .numbers)) r h in
-      let little = eqb (getD s (c .at) 0) 1 in
-      let kind = wordAt little s (c .at + 1) in
-      let n = wordAt little s (c .at + 5) in
-      by-cond (Led c b) (remains s (c .at) 1) _ _ (λ t.
-      by-cond (Led c b) (ltb (getD s (c .at) 0) 2) _ _ (λ t.
-      by-cond (Led c b) (remains s (c .at) 5) _ _ (λ t.
-      by-cond (Led c b) (eqb (kindFault (slotOf c) c kind) 0) _ _ (λ t.
-      by-cond (Led c b) (remains s (c .at) 9) _ _ (λ t.
-      by-cond (Led c b) (countFits (slotOf c) n) _ _ (λ fits.
-      opened-sized c little kind n p r (slotOf c) b (slot-at c) i fits h) (λ e. m)) (λ e. m)) (λ e. m)) (λ e. m)) (λ e. m)) (λ e. m)
-
-  turn-good : Good (turn s c b)
-  unfolding turn taken stepAt ringAt endAt
-  turn-good =
-      by-test (Led c b) (ltb 0 (c .points)) _ _ (λ t. point-fine (ltb→lt 0 (c .points) t)) (λ t.
-      let p : c .points ≡ 0 = omega (arith, nltb→le 0 (c .points) t) in
-      by-test (Led c b) (ltb 0 (c .rings)) _ _ (λ t.
-      by-cond (Led c b) (remains s (c .at) 4) _ _ (λ u.
-      by-cond (Led c b) (ringFits c (wordAt (c .little) s (c .at))) _ _ (λ fits.
-      ring-sized c (wordAt (c .little) s (c .at)) b p (ltb→lt 0 (c .rings) t) fits h) (λ e. absurd (omega arith))) (λ e. absurd (omega arith))) (λ t.
-      let r : c .rings ≡ 0 = omega (arith, nltb→le 0 (c .rings) t) in
-      let m = at-most c (length (b .numbers)) r h in
-      by-test (Led c b) (not (eqb (c .member) 0) && complete c) _ _ (λ t.
-      by-cond (Led c b) (ltb (c .at) (length s)) _ _ (λ t e. m) (by-cond (Led c b) (eqb (c .at) (length s)) _ _ (λ t e. m) (λ e. m)))
-      (λ i. geometry-fine p r i)))
+      go : 0 < c .points → (x y : Coordinate) → Good limit (judged c (afterPoint c) b x y)
+      go p Not y = λ e. absurd (omega arith)
+      go p (Whole x) Not = λ e. absurd (omega arith)
+      go p (Whole x) (Whole y) =
+          by-cond (Good limit) (eqb (c .points) 1 && not (eqb x (noted x y b .x) && eqb y (noted x y b .y))) _ _ (λ t e. absurd (omega arith)) (point-sized c x y b p h)
 
 -- ---- reading
 -- Reading from a place with the bound, by any number of steps.
-run-fits : (n : ℕ) (s : List ℕ) (c : Cursor) (b : Taken) → Sized c (length (b .numbers)) → run n s c b .code ≡ 0 → length (run n s c b .numbers) ≤ 16450
+run-fits : {limit : ℕ} (n : ℕ) (s : List ℕ) (c : Cursor) (b : Taken) → Sized limit c (length (b .numbers)) → run n s c b .code ≡ 0 → length (run n s c b .numbers) ≤ 16385 + limit
 unfolding run
 run-fits zero s c b h = λ e. absurd (omega arith)
-run-fits (suc n) s c b h = go (turn s c b) (turn-good s c b h) (λ c′ b′. run-fits n s c′ b′)
+run-fits {limit} (suc n) s c b h = go (turn s c b) (turn-good s c b h) (λ c′ b′. run-fits n s c′ b′)
   where
-    go : (t : Turn) → Good t → ((c′ : Cursor) (b′ : Taken) → Sized c′ (length (b′ .numbers)) → run n s c′ b′ .code ≡ 0 → length (run n s c′ b′ .numbers) ≤ 16450)
-        → (let r : Reading = elim t [ on c′ b′ ↦ run n s c′ b′ | over r ↦ r ] in r .code ≡ 0 → length (r .numbers) ≤ 16450)
+    go : (t : Turn) → Good limit t → ((c′ : Cursor) (b′ : Taken) → Sized limit c′ (length (b′ .numbers)) → run n s c′ b′ .code ≡ 0 → length (run n s c′ b′ .numbers) ≤ 16385 + limit)
+        → (let r : Reading = elim t [ on c′ b′ ↦ run n s c′ b′ | over r ↦ r ] in r .code ≡ 0 → length (r .numbers) ≤ 16385 + limit)
     go (on c′ b′) k f = f c′ b′ k
     go (over r) k f = k
 
-pub numbers-fit : (s : List ℕ) → readingOf s .code ≡ 0 → length (readingOf s .numbers) ≤ 16450
-numbers-fit s = run-fits (suc (length s)) s start nothing (record { members = omega arith; total = omega arith; stage = sheet refl refl refl })
+pub numbers-fit : (limit : ℕ) (s : List ℕ) → readingOf limit s .code ≡ 0 → length (readingOf limit s .numbers) ≤ 16385 + limit
+numbers-fit limit s = run-fits (suc (length s)) s (start limit) nothing (record { is-limit = refl; members = omega arith; total = omega arith; stage = sheet refl refl refl })

@@ -2,25 +2,24 @@
 -- geometries stand in a row with one level fewer, the last of them before what is behind the geometry.
 -- The idea: go by where the geometry stands and by its kind. Assumes nothing.
 use mathlib.Core.Path.{_≡_, refl, sym, _∙_, ap, ap₂, subst}
-use mathlib.Core.Bool.{Bool, true, false}
+use mathlib.Core.Bool.{Bool, true, false, true≢false}
 use mathlib.Core.List.{List}
 use mathlib.Core.Logic.{_⊎_, ⊎-elim}
 use Prim.Native.Nat.{ℕ, zero, suc, _+_, _-_, _≤_, _<_}
 use native.Mathlib.Omega.{arith}
-use borrow.Author.Tests.{ltb-true, ltb-false, lt-ltb, le-ltb, eqb-true, eqb-false}
+use borrow.Author.Tests.{ltb-true, ltb-false, lt-ltb, le-ltb}
 use denote.Enum.Declared.{tagOf}
 use lib.Dec.{ltb, eqb}
-use lib.ListN.{getD}
 use Rattle.whole.proofs.Tests.{by-equal, by-cond}
 use Rattle.wkb_kinds.specs.declared.Slot.{Slot}
 use Rattle.wkb_kinds.specs.declared.Slot.the-variants.{Sheet, Table, Piece, Part, Member}
-use Rattle.lent_little.specs.Ordered.{remains, wordAt}
 use Rattle.wkb.specs.declared.Cursor.{Cursor}
 use Rattle.wkb.specs.declared.Step.{Step}
 use Rattle.wkb.specs.declared.Step.the-variants.{Geometry, Ring, Point, End, Refused}
 use Rattle.wkb.specs.Places.{moved, naming, headerToCome, secondToCome, thirdToCome, fourthToCome, partsToCome, polygonToCome}
-use Rattle.wkb.specs.Steps.{slotOf, renewed, kindFault, countFits, popped, fewerParts, withSheet, withParts, withMembers, withRings, opened, geometryAt, stepAt}
+use Rattle.wkb.specs.Steps.{slotOf, renewed, kindFault, countFits, popped, fewerParts, withSheet, withParts, withMembers, withRings, opened, stepAt}
 use Rattle.wkb.proofs.Steps.{pops, count-some, popped-own, popped-fourth, popped-third, popped-second}
+use Rattle.wkb.proofs.Cases.{named-some, by-case}
 use Rattle.wkb.proofs.Complete.{not-complete}
 use Rattle.wkb.proofs.Allowed.{allowed-member, polygon, parts, members}
 use Rattle.wkb.proofs.Step.{the-type}
@@ -36,38 +35,20 @@ use Rattle.sheet.proofs.Rows.{behind-part, behind-other, row, behind-ro
 -- ---- the step
 -- A header that is let through opens its geometry; a refusal has a code.
 abbrev pub Opens : Cursor → Step → Type 0
-Opens c (Geometry kind n d) = (little : Bool) × (d ≡ opened (slotOf c) c little kind n) × (kindFault (slotOf c) c kind ≡ 0) × (countFits (slotOf c) n ≡ true)
+Opens c (Geometry kind n d) = (little : Bool) × (d ≡ opened (slotOf c) c little kind n) × (kindFault (slotOf c) c kind ≡ 0) × (countFits (c .limit) (slotOf c) n ≡ true)
 Opens c (Ring n d) = ⊥
 Opens c (Point x y d) = ⊥
 Opens c (End d) = ⊥
 Opens c (Refused code item d) = code ≡ 0 → ⊥
 
-header-opens : (s : List ℕ) (c : Cursor) → Opens c (geometryAt s c)
-unfolding geometryAt
-header-opens s c =
-    by-cond (Opens c) (remains s (c .at) 1) _ _ (λ t.
-    by-cond (Opens c) (ltb (getD s (c .at) 0) 2) _ _ (λ t.
-    by-cond (Opens c) (remains s (c .at) 5) _ _ (λ t.
-    by-equal (Opens c) (eqb (kindFault (slotOf c) c kind) 0) _ _ (λ allowed.
-    by-cond (Opens c) (remains s (c .at) 9) _ _ (λ t.
-    by-equal (Opens c) (countFits (slotOf c) n) _ _ (λ fits. (little, refl, eqb-true (kindFault (slotOf c) c kind) 0 allowed, fits)) (λ f e. omega arith)) (λ e. omega arith))
-    (λ f. eqb-false (kindFault (slotOf c) c kind) 0 f)) (λ e. omega arith)) (λ e. omega arith)) (λ e. omega arith)
-  where
-    little : Bool
-    little = eqb (getD s (c .at) 0) 1
-
-    kind : ℕ
-    kind = wordAt little s (c .at + 1)
-
-    n : ℕ
-    n = wordAt little s (c .at + 5)
-
 pub step-opens : (s : List ℕ) (depth : ℕ) (c : Cursor) → Begins depth c → Opens c (stepAt s c)
-unfolding stepAt
-step-opens s depth c h =
-    let r = h .no-rings in
-    let p = h .no-points in
-    rw (le-ltb 0 (c .points) (omega arith), le-ltb 0 (c .rings) (omega arith), h .more) (header-opens s c)
+step-opens s depth c h = by-case (Opens c) s c (record {
+  refused = named-some;
+  point = λ p l. let z = h .no-points in omega arith;
+  ring = λ p r l n f. let z = h .no-rings in omega arith;
+  end = λ p r t. absurd (true≢false (sym t ∙ h .more));
+  geometry = λ p r t l little kind n k f. (little, refl, k, f);
+})
 
 -- ---- what is opened
 -- A header with the count n leads from c to d: an open polygon, or a container with a row of n geometries.
@@ -262,7 +243,7 @@ pub step-holds : (s : List ℕ) (depth : ℕ) (c : Cursor) (kind n : ℕ) (d : C
 unfolding levels
 step-holds s depth c kind n d h e =
     let o = subst (Opens c) e (step-opens s depth c h) in
-    subst (Holds depth c n) (sym (o .1)) (holds depth c h (o .0) kind n (count-some (slotOf c) n (o .3)) (slotOf c) (where-is c) (h .deep) (o .2))
+    subst (Holds depth c n) (sym (o .1)) (holds depth c h (o .0) kind n (count-some (c .limit) (slotOf c) n (o .3)) (slotOf c) (where-is c) (h .deep) (o .2))
 
 -- ---- the code's turn after such a step
 opens-goes : (c : Cursor) (a : Step) → Opens c a → Goes a

@@ -97,7 +97,7 @@ closed-own m c h = let z = h .none in complete-is (headerToCome false c) (record
 })
 
 abbrev nextOwn : Cursor → Cursor
-nextOwn c = headerToCome true (polygonsBegun 0 (naming (upTo 65 (c .member)) (c .members - 1) (headerToCome false c)))
+nextOwn c = headerToCome true (polygonsBegun 0 (naming (upTo (c .limit) (c .member)) (c .members - 1) (headerToCome false c)))
 
 behind-own : (m : ℕ) (c : Cursor) → Own m c → behind c ≡ renewed (headerToCome false c)
 behind-own m c h = let z = h .none in behind-other c (omega arith) ∙ ap renewed (popped-own c (h .header))
@@ -110,8 +110,8 @@ more-own : (m : ℕ) (c : Cursor) → Own (suc m) c → behind c ≡ nextOwn c
 unfolding renewed
 more-own m c h = behind-own (suc m) c h ∙ (let z = h .members in rw (closed-own (suc m) c h, lt-ltb 0 (c .members) (omega arith)))
 
-one-more : (n : ℕ) → eqb n 0 ≡ false → eqb (upTo 65 n) 0 ≡ false
-one-more n e = by-equal (λ (m : ℕ). eqb m 0 ≡ false) (ltb n 65) (n + 1) n (λ t. ne-eqb (n + 1) 0 (λ z. omega arith)) (λ t. e)
+one-more : (limit n : ℕ) → eqb n 0 ≡ false → eqb (upTo limit n) 0 ≡ false
+one-more limit n e = by-equal (λ (m : ℕ). eqb m 0 ≡ false) (ltb n limit) (n + 1) n (λ t. ne-eqb (n + 1) 0 (λ z. omega arith)) (λ t. e)
 
 next-own : (m : ℕ) (c : Cursor) → Own (suc m) c → Own m (nextOwn c)
 next-own m c h = record {
@@ -119,7 +119,7 @@ next-own m c h = record {
   no-points = h .no-points;
   header = refl;
   none = h .none;
-  inside = one-more (c .member) (h .inside);
+  inside = one-more (c .limit) (c .member) (h .inside);
   members = let z = h .members in omega arith;
 }
 

@@ -5,8 +5,8 @@ use mathlib.Core.Bool.{Bool, not, _&&_}
 use mathlib.Core.List.{List}
 use Prim.Native.Nat.{ℕ, zero, suc, _+_, _-_, _≤_}
 use native.Mathlib.Omega.{arith}
-use lib.Dec.{ltb, eqb, leb→le}
-use lib.ListN.{length, getD}
+use lib.Dec.{ltb, eqb}
+use lib.ListN.{length}
 use Rattle.whole.proofs.Tests.{by-cond}
 use Rattle.sheet_coordinate.specs.Coordinate.{coordinateOf}
 use Rattle.sheet_coordinate.specs.declared.Coordinate.{Coordinate}
@@ -17,9 +17,9 @@ use Rattle.wkb_kinds.specs.declared.Slot.{Slot}
 use Rattle.wkb_kinds.specs.declared.Slot.the-variants.{Sheet, Table, Piece, Part, Member}
 use Rattle.wkb.specs.declared.Step.{Step}
 use Rattle.wkb.specs.declared.Step.the-variants.{Geometry, Ring, Point, End, Refused}
-use Rattle.lent_little.specs.Ordered.{remains, wordAt}
-use Rattle.wkb.specs.Steps.{start, slotOf, complete, renewed, kindFault, countFits, popped, withRings, withParts, withSheet, fewerParts, opened, geometryAt, ringFits, withPoints, ringAt, afterPoint, pointAt, endAt, stepAt}
+use Rattle.wkb.specs.Steps.{start, slotOf, complete, renewed, popped, withRings, withParts, withSheet, fewerParts, opened, withPoints, afterPoint, stepAt}
 use Rattle.wkb.proofs.Steps.{pops, members-opened}
+use Rattle.wkb.proofs.Cases.{by-case}
 use Rattle.sheet.specs.Reading.{Taken, Reading, Turn, on, over, noted, judged, taken, turn, run, readingOf, nothing}
 use Rattle.sheet.specs.Going.{reading}
 
@@ -35,7 +35,7 @@ Moved s c (Point x y c′) = Ahead s c c′
 Moved s c (End c′) = Unit {0}
 Moved s c (Refused code item c′) = Unit {0}
 
-renewed-at : (c : Cursor) → renewed c .at ≡ c .at
+pub renewed-at : (c : Cursor) → renewed c .at ≡ c .at
 unfolding renewed
 renewed-at c = by-cond (λ (d : Cursor). d .at ≡ c .at) (complete c && ltb 0 (c .members)) _ c (λ t. refl) refl
 
@@ -50,35 +50,15 @@ opened-at Member c little kind n =
     (by-cond (λ (d : Cursor). d .at ≡ c .at + 9) (eqb kind 6) _ _ (λ t. ap (λ k. k + 9) (pops c .at))
     (members-opened (λ (d : Cursor). d .at ≡ c .at + 9) c n (popped c) (ap (λ k. k + 9) (pops c .at)) (ap (λ k. k + 9) (pops c .at)) (ap (λ k. k + 9) (pops c .at))))
 
-geometry-moved : (s : List ℕ) (c : Cursor) → Moved s c (geometryAt s c)
-unfolding geometryAt
-geometry-moved s c =
-    by-cond (Moved s c) (remains s (c .at) 1) _ _ (λ t.
-    by-cond (Moved s c) (ltb (getD s (c .at) 0) 2) _ _ (λ t.
-    by-cond (Moved s c) (remains s (c .at) 5) _ _ (λ t.
-    by-cond (Moved s c) (eqb (kindFault (slotOf c) c (wordAt (eqb (getD s (c .at) 0) 1) s (c .at + 1))) 0) _ _ (λ t.
-    by-cond (Moved s c) (remains s (c .at) 9) _ _ (λ enough.
-    by-cond (Moved s c) (countFits (slotOf c) (wordAt (eqb (getD s (c .at) 0) 1) s (c .at + 5))) _ _ (λ t.
-    let e = opened-at (slotOf c) c (eqb (getD s (c .at) 0) 1) (wordAt (eqb (getD s (c .at) 0) 1) s (c .at + 1)) (wordAt (eqb (getD s (c .at) 0) 1) s (c .at + 5)) in
-    let l = leb→le (c .at + 9) (length s) enough in
-    (omega arith, omega arith)) tt) tt) tt) tt) tt) tt
-
 pub step-moved : (s : List ℕ) (c : Cursor) → Moved s c (stepAt s c)
-unfolding stepAt pointAt ringAt endAt withPoints afterPoint
-step-moved s c =
-    by-cond (Moved s c) (ltb 0 (c .points)) _ _ (λ t.
-    by-cond (Moved s c) (remains s (c .at) 16) _ _ (λ enough.
-    let e = renewed-at (pointsToCome (c .points - 1) (moved 16 c)) in
-    let l = leb→le (c .at + 16) (length s) enough in
-    (omega arith, omega arith)) tt)
-    (by-cond (Moved s c) (ltb 0 (c .rings)) _ _ (λ t.
-    by-cond (Moved s c) (remains s (c .at) 4) _ _ (λ enough.
-    by-cond (Moved s c) (ringFits c (wordAt (c .little) s (c .at))) _ _ (λ t.
-    let l = leb→le (c .at + 4) (length s) enough in
-    (omega arith, omega arith)) tt) tt)
-    (by-cond (Moved s c) (not (eqb (c .member) 0) && complete c) _ _ (λ t.
-    by-cond (Moved s c) (ltb (c .at) (length s)) _ _ (λ t. tt) (by-cond (Moved s c) (eqb (c .at) (length s)) _ _ (λ t. tt) tt))
-    (geometry-moved s c)))
+unfolding withPoints afterPoint
+step-moved s c = by-case (Moved s c) s c (record {
+  refused = λ code t. tt;
+  point = λ p l. let e = renewed-at (pointsToCome (c .points - 1) (moved 16 c)) in (omega arith, omega arith);
+  ring = λ p r l n f. (omega arith, l);
+  end = λ p r t. (tt, tt);
+  geometry = λ p r t l little kind n k f. let e = opened-at (slotOf c) c little kind n in (omega arith, omega arith);
+})
 
 -- ---- a turn goes forward too
 abbrev Goes : List ℕ → Cursor → Turn → Type 0
@@ -128,6 +108,6 @@ reading-turns s c b = go (turn s c b) (turn-moved s c b)
     go (over r) h = refl
 
 -- The reading of a sheet is reading from the place before the first byte.
-pub reading-starts : (s : List ℕ) → readingOf s ≡ reading s start nothing
+pub reading-starts : (limit : ℕ) (s : List ℕ) → readingOf limit s ≡ reading s (start limit) nothing
 unfolding reading
-reading-starts s = run-enough (suc (length s)) (suc (suc (length s) - 0)) s start nothing (omega arith) (omega arith) (omega arith) (omega arith)
+reading-starts limit s = run-enough (suc (length s)) (suc (suc (length s) - 0)) s (start limit) nothing (omega arith) (omega arith) (omega arith) (omega arith)

@@ -60,14 +60,15 @@ pub data Stage (c : Cursor) (f : ℕ) : Type 0 where
   table : c .member ≡ 1 → c .second + c .third + c .fourth ≡ 0 → f + 6 * c .parts + 6 * c .rings + 2 * (c .points - 1) + min 1 (c .parts + c .rings + c .points) ≤ 6146 → T (not (c .header)) → Stage c f
   after : 2 ≤ c .member → 2 * f + 4 * c .points + 2 * cond (c .header) 1 0 + 2 ≤ 12292 + 2 * c .member + 5 * c .total + 2 * min 1 (c .rings) → Stage c f
 
--- With that, at most 65 members and 4096 points.
-pub record Sized (c : Cursor) (f : ℕ) : Type 0 where
-  pub members : c .member + c .members ≤ 65
+-- With that, at most so many members and 4096 points.
+pub record Sized (limit : ℕ) (c : Cursor) (f : ℕ) : Type 0 where
+  pub is-limit : c .limit ≡ limit
+  pub members : c .member + c .members ≤ limit
   pub total : c .total ≤ 4096
   pub stage : Stage c f
 
 -- Where no ring is to come the numbers are no more than those of the largest sheet.
-pub at-most : (c : Cursor) (f : ℕ) → c .rings ≡ 0 → Sized c f → f ≤ 16450
+pub at-most : {limit : ℕ} (c : Cursor) (f : ℕ) → c .rings ≡ 0 → Sized limit c f → f ≤ 16385 + limit
 at-most c f r h =
     let m = h .members in
     let t = h .total in
@@ -79,15 +80,17 @@ one-more l v = length-append l (v ∷ [])
 
 -- ---- a point
 -- The next member begins with the bound of the one that is complete.
-renewed-sized : (c : Cursor) (f : ℕ) → Sized c f → Sized (renewed c) f
+renewed-sized : {limit : ℕ} (c : Cursor) (f : ℕ) → Sized limit c f → Sized limit (renewed c) f
 unfolding renewed
-renewed-sized c f h =
-    by-cond (λ (d : Cursor). Sized d f) (complete c && ltb 0 (c .members)) _ c (λ t.
+renewed-sized {limit} c f h =
+    by-cond (λ (d : Cursor). Sized limit d f) (complete c && ltb 0 (c .members)) _ c (λ t.
     let z = no-points c (and-left (complete c) (ltb 0 (c .members)) t) in
     let l = ltb→lt 0 (c .members) (and-right (complete c) (ltb 0 (c .members)) t) in
     let m = h .members in
-    let u : upTo 65 (c .member) ≡ c .member + 1 = by-test (λ (k : ℕ). k ≡ c .member + 1) (ltb (c .member) 65) _ _ (λ t. refl) (λ n. absurd (omega (arith, nltb→le (c .member) 65 n))) in
+    let i = h .is-limit in
+    let u : upTo (c .limit) (c .member) ≡ c .member + 1 = by-test (λ (k : ℕ). k ≡ c .member + 1) (ltb (c .member) (c .limit)) _ _ (λ t. refl) (λ n. absurd (omega (arith, nltb→le (c .member) (c .limit) n))) in
     record {
+      is-limit = h .is-limit;
       members = omega arith;
       total = h .total;
       stage = elim (h .stage) [
@@ -103,9 +106,10 @@ module _ (c : Cursor) where
   abbrev closes : Bool
   closes = eqb (c .member) 1 && eqb (c .points) 1
 
-  point-stage : (f : ℕ) → 0 < c .points → Sized c f → Sized (afterPoint c) (f + cond closes 0 2 + cond (lastOfTable c) 1 0)
+  point-stage : {limit : ℕ} (f : ℕ) → 0 < c .points → Sized limit c f → Sized limit (afterPoint c) (f + cond closes 0 2 + cond (lastOfTable c) 1 0)
   unfolding afterPoint
   point-stage f l h = renewed-sized _ _ (record {
+    is-limit = h .is-limit;
     members = h .members;
     total = h .total;
     stage = elim (h .stage) [
@@ -128,9 +132,9 @@ module _ (c : Cursor) where
     ];
   })
 
-  pub point-sized : (x y : ℕ) (b : Taken) → 0 < c .points → Sized c (length (b .numbers)) → Sized (afterPoint c) (length (pointing c x y b .numbers))
+  pub point-sized : {limit : ℕ} (x y : ℕ) (b : Taken) → 0 < c .points → Sized limit c (length (b .numbers)) → Sized limit (afterPoint c) (length (pointing c x y b .numbers))
   unfolding pointing
-  point-sized x y b l h = subst (Sized (afterPoint c)) (grown closes (lastOfTable c)) (point-stage (length (b .numbers)) l h)
+  point-sized {limit} x y b l h = subst (Sized limit (afterPoint c)) (grown closes (lastOfTable c)) (point-stage (length (b .numbers)) l h)
     where
       more : (a : Bool) → length (b .numbers) + cond a 0 2 ≡ length (cond a (noted x y b) (push y (push x (noted x y b))) .numbers)
       more true = omega arith
@@ -142,7 +146,7 @@ module _ (c : Cursor) where
       grown a false = omega (arith, more a)
 
 -- ---- a ring
-ring-stage : (c : Cursor) (n f : ℕ) → c .points ≡ 0 → 0 < c .rings → T (ringFits c n) → Sized c f → Sized (withPoints n c) (f + cond (eqb (c .member) 1) 0 1)
+ring-stage : {limit : ℕ} (c : Cursor) (n f : ℕ) → c .points ≡ 0 → 0 < c .rings → T (ringFits c n) → Sized limit c f → Sized limit (withPoints n c) (f + cond (eqb (c .member) 1) 0 1)
 unfolding withPoints ringFits
 ring-stage c n f p l fits h =
     let g = h .total in
@@ -152,6 +156,7 @@ ring-stage c n f p l fits h =
     let v = is-yes (eqb (c .member) 1) (c .total) (c .total + n) t in
     let w = eqb→eq n 4 (subst T (is-yes (eqb (c .member) 1) (eqb n 4) (leb 4 n && leb n 4096 && leb (c .total + n) 4096) t) fits) in
     record {
+      is-limit = h .is-limit;
       members = h .members;
       total = omega arith;
       stage = elim (h .stage) [ sheet a s e ↦ absurd (omega arith) | first a s e k ↦ absurd (omega arith) | table a s e k ↦ table a s (omega arith) k | after a e ↦ absurd (omega arith) ];
@@ -163,14 +168,15 @@ ring-stage c n f p l fits h =
     let x = leb→le 4 n (and-left (leb 4 n) (leb n 4096) (and-left (leb 4 n && leb n 4096) (leb (c .total + n) 4096) w)) in
     let y = leb→le (c .total + n) 4096 (and-right (leb 4 n && leb n 4096) (leb (c .total + n) 4096) w) in
     record {
+      is-limit = h .is-limit;
       members = h .members;
       total = omega arith;
       stage = elim (h .stage) [ sheet a s e ↦ absurd (omega arith) | first a s e k ↦ absurd (omega arith) | table a s e k ↦ absurd (m a) | after a e ↦ after a (omega arith) ];
     })
 
-pub ring-sized : (c : Cursor) (n : ℕ) (b : Taken) → c .points ≡ 0 → 0 < c .rings → T (ringFits c n) → Sized c (length (b .numbers)) → Sized (withPoints n c) (length (ringing c n b .numbers))
+pub ring-sized : {limit : ℕ} (c : Cursor) (n : ℕ) (b : Taken) → c .points ≡ 0 → 0 < c .rings → T (ringFits c n) → Sized limit c (length (b .numbers)) → Sized limit (withPoints n c) (length (ringing c n b .numbers))
 unfolding ringing
-ring-sized c n b p l fits h = subst (Sized (withPoints n c)) (grown (eqb (c .member) 1)) (ring-stage c n (length (b .numbers)) p l fits h)
+ring-sized {limit} c n b p l fits h = subst (Sized limit (withPoints n c)) (grown (eqb (c .member) 1)) (ring-stage c n (length (b .numbers)) p l fits h)
   where
     grown : (a : Bool) → length (b .numbers) + cond a 0 1 ≡ length (cond a b (push (held n) b) .numbers)
     grown true = omega arith

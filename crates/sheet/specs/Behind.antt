@@ -11,9 +11,9 @@ use Rattle.wkb.specs.Steps.{start, slotOf, complete, renewed, popped, fewerPart
 use Rattle.sheet.specs.declared.Turn.{Turn}
 use Rattle.sheet.specs.declared.Turn.the-variants.{On, Over}
 
--- The counts of a place: the member that it names and what is to come, wherever the place stands and whatever was counted before.
+-- The counts of a place: the member that it names, the most members and what is to come, wherever the place stands and whatever was counted before.
 abbrev pub counts : Cursor → Cursor
-counts c = polygonToCome (c .rings) false (c .points) (geometriesToCome (c .header) (c .second) (c .third) (c .fourth) (c .parts) (naming (c .member) (c .members) start))
+counts c = polygonToCome (c .rings) false (c .points) (geometriesToCome (c .header) (c .second) (c .third) (c .fourth) (c .parts) (naming (c .member) (c .members) (start (c .limit))))
 
 -- The open polygon read to its end.
 unfoldable pub closed : Cursor → Cursor

@@ -5,6 +5,7 @@ use mathlib.Core.List.{List, _++_}
 use Prim.Native.Nat.{ℕ, suc, _+_, _-_, _^_, _≤_, _<_}
 use lib.Dec.{eqb}
 use lib.ListN.{length, take, drop}
+use Rattle.plane.specs.Corners.{offset}
 use Rattle.wkb.specs.declared.Cursor.{Cursor}
 use Rattle.wkb.specs.declared.Step.{Step}
 use Rattle.wkb.specs.declared.Step.the-variants.{Geometry, Ring, Point, End, Refused}
@@ -39,10 +40,11 @@ Turned out (on c t) (Over code item) numbers = ⊥
 Turned out (over r) (On d b) numbers = ⊥
 Turned out (over r) (Over code item) numbers = Ends out r code item numbers
 
--- Counts of a place that has been reached by steps are small.
+-- Counts of a place that has been reached by steps are small: each can be held.
 pub record Sane (c : Cursor) : Type 0 where
   pub polygons : c .polygons ≤ 64
-  pub members : c .members ≤ 64
+  pub members : c .members ≤ offset
+  pub limit : c .limit ≤ offset
 
 -- A place and what was read fit each other and the bytes.
 pub record Within (s : List ℕ) (c : Cursor) (b : Build) : Type 0 where
@@ -52,9 +54,9 @@ pub record Within (s : List ℕ) (c : Cursor) (b : Build) : Type 0 where
 
 -- The answer of a step, with what was read, can be taken.
 abbrev pub Ready : Cursor → Build → Step → Type 0
-Ready c b (Geometry kind n d) = (n ≤ 4096) × (d .polygons ≤ 64) × (b .fill + 3 < 2 ^ 64)
+Ready c b (Geometry kind n d) = (n ≤ offset) × (d .polygons ≤ 64) × (b .fill + 3 < 2 ^ 64)
 Ready c b (Ring n d) = (n ≤ 4096) × (b .fill + 3 < 2 ^ 64)
-Ready c b (Point x y d) = (c .members ≤ 64) × (b .fill + 3 < 2 ^ 64)
+Ready c b (Point x y d) = (c .members ≤ offset) × (b .fill + 3 < 2 ^ 64)
 Ready c b (End d) = Unit {0}
 Ready c b (Refused code item d) = Unit {0}
 

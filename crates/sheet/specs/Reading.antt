@@ -149,6 +149,6 @@ unfoldable pub run : ℕ → List ℕ → Cursor → Taken → Reading
 run zero s c b = ended (refusal 1 c) b
 run (suc n) s c b = elim (turn s c b) [ on c′ b′ ↦ run n s c′ b′ | over r ↦ r ]
 
--- The reading of a sheet: a step for each byte and one more are enough.
-abbrev pub readingOf : List ℕ → Reading
-readingOf s = run (suc (length s)) s start nothing
+-- The reading of a sheet that may have so many members, the table among them: a step for each byte and one more are enough.
+abbrev pub readingOf : ℕ → List ℕ → Reading
+readingOf limit s = run (suc (length s)) s (start limit) nothing

@@ -4,6 +4,7 @@ ghost use mathlib.Core.Bool.{cond};
 ghost use mathlib.Core.List.{List};
 ghost use Prim.Native.Nat.{ℕ, _+_, _≤_, _<_, _^_};
 ghost use lib.ListN.{set};
+ghost use Rattle.plane.specs.Corners.{offset};
 ghost use Rattle.sheet.specs.Reading;
 ghost use Rattle.sheet.specs.Reading.{Taken, readingOf};
 ghost use Rattle.sheet_coordinate.specs.Coordinate.{coordinateOf};
@@ -82,7 +83,7 @@ fn tally(b: Build, n: u32, numbers: &mut [u32])
 
 // A polygon of the member is opened; next is the place after its header.
 fn polygon(next: Cursor, n: u32, b: Build, numbers: &mut [u32]) -> Build
-    requires { ⌜ (n ≤ 4096) × (next .polygons ≤ 64) × (b .fill + 1 < 2 ^ 64) ⌝ }
+    requires { ⌜ (n ≤ offset) × (next .polygons ≤ 64) × (b .fill + 1 < 2 ^ 64) ⌝ }
     ensures { λ r. ⌜ (r .fill ≡ b .fill + 1) × ((t : Taken) (out : List ℕ) → Shows out t b (now (numbers .entry)) → Shows out (Reading.polygon next n t) r (now (numbers .exit))) ⌝ }
 {
     tally(b, next.polygons, numbers);
@@ -99,7 +100,7 @@ fn opening(
     b: Build,
     numbers: &mut [u32],
 ) -> Build
-    requires { ⌜ (n ≤ 4096) × (next .polygons ≤ 64) × (b .fill + 3 < 2 ^ 64) ⌝ }
+    requires { ⌜ (n ≤ offset) × (next .polygons ≤ 64) × (b .fill + 3 < 2 ^ 64) ⌝ }
     ensures { λ r. ⌜ (r .fill ≤ b .fill + 3) × ((t : Taken) (out : List ℕ) → Shows out t b (now (numbers .entry)) → Shows out (Reading.opening slot c next kind n t) r (now (numbers .exit))) ⌝ }
 {
     match slot {
@@ -113,7 +114,7 @@ fn opening(
 
 // What a member's geometry adds: the member may begin with it, and it may be a polygon.
 fn member(begins: bool, simple: bool, next: Cursor, n: u32, b: Build, numbers: &mut [u32]) -> Build
-    requires { ⌜ (n ≤ 4096) × (next .polygons ≤ 64) × (b .fill + 3 < 2 ^ 64) ⌝ }
+    requires { ⌜ (n ≤ offset) × (next .polygons ≤ 64) × (b .fill + 3 < 2 ^ 64) ⌝ }
     ensures { λ r. ⌜ (r .fill ≤ b .fill + 3) × ((t : Taken) (out : List ℕ) → Shows out t b (now (numbers .entry)) → Shows out (cond simple (Reading.polygon next n (cond begins (Reading.begin t) t)) (cond begins (Reading.begin t) t)) r (now (numbers .exit))) ⌝ }
 {
     if begins {
@@ -166,7 +167,7 @@ fn push_both(b: Build, x: u32, y: u32, numbers: &mut [u32]) -> Build
 
 // What a point adds.
 fn pointing(c: Cursor, x: u32, y: u32, b: Build, numbers: &mut [u32]) -> Build
-    requires { ⌜ (c .members ≤ 64) × (b .fill + 3 < 2 ^ 64) ⌝ }
+    requires { ⌜ (c .members ≤ offset) × (b .fill + 3 < 2 ^ 64) ⌝ }
     ensures { λ r. ⌜ (r .fill ≤ b .fill + 3) × ((t : Taken) (out : List ℕ) → Shows out t b (now (numbers .entry)) → Shows out (Reading.pointing c x y t) r (now (numbers .exit))) ⌝ }
 {
     let more = noted(b, x, y);
@@ -201,7 +202,7 @@ fn differs(c: Cursor, x: u32, y: u32, b: Build) -> bool
 
 // A point is judged as it comes: 5 where a double is not a coordinate, then 6 where the ring's last point differs from its first.
 fn judged(c: Cursor, next: Cursor, b: Build, x: f64, y: f64, numbers: &mut [u32]) -> Turn
-    requires { ⌜ (c .members ≤ 64) × (b .fill + 3 < 2 ^ 64) ⌝ }
+    requires { ⌜ (c .members ≤ offset) × (b .fill + 3 < 2 ^ 64) ⌝ }
     ensures { λ r. ⌜ Leads (Point x y next) b r × ((t : Taken) (out : List ℕ) → Shows out t b (now (numbers .entry)) → Turned out (Reading.judged c next t (coordinateOf x) (coordinateOf y)) r (now (numbers .exit))) ⌝ }
 {
     let Coordinate::Whole(h) = sheet_coordinate::judge(x) else {
@@ -308,9 +309,11 @@ fn collection(s: &[u8], from: Cursor, had: Build, n: u32, depth: u32, numbers: &
 }
 
 // Reads a sheet into lent numbers: its numbers form, each number plus 10,000,000, as far as there is room. The sheet is one geometry, with
-// collections 4 deep and a MultiPolygon in them; behind it comes the end, or bytes that are too many.
-pub fn read(s: &[u8], numbers: &mut [u32]) -> Ending
-    ensures { λ r. ⌜ (r ≡ readOf (readingOf (now (s .entry)))) × (now (numbers .exit) ≡ laid (readingOf (now (s .entry)) .numbers) (now (numbers .entry))) ⌝ }
+// collections 4 deep and a MultiPolygon in them; behind it comes the end, or bytes that are too many. It may have `limit` members, which can be
+// held.
+pub fn read(s: &[u8], limit: u32, numbers: &mut [u32]) -> Ending
+    requires { ⌜ limit ≤ offset ⌝ }
+    ensures { λ r. ⌜ (r ≡ readOf (readingOf limit (now (s .entry)))) × (now (numbers .exit) ≡ laid (readingOf limit (now (s .entry)) .numbers) (now (numbers .entry))) ⌝ }
 {
     let b = Build {
         fill: 0,
@@ -319,7 +322,7 @@ pub fn read(s: &[u8], numbers: &mut [u32]) -> Ending
         x: 0,
         y: 0,
     };
-    let t = geometry(s, Cursor::START, b, 5, numbers);
+    let t = geometry(s, Cursor::start(limit), b, 5, numbers);
     match t {
         Turn::On(c, more) => {
             let Step::End(_) = c.step(s) else {

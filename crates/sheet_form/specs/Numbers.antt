@@ -1,6 +1,7 @@
 -- The numbers form of a sheet: the triangle count and six numbers each, the polygon count, then for each its parts, rings and points,
 -- every count before what it counts, rings closed.
 use mathlib.Core.List.{List, [], _∷_, _++_, flatMap}
+use Prim.Native.Nat.{ℕ}
 use lib.IntN.{ℤ, pos}
 use lib.ListN.{length}
 use Rattle.plane.specs.Points.{Point, Triangle}
@@ -10,6 +11,10 @@ use Rattle.plane.specs.Members.{Ring, Polygon, Member}
 pub record Sheet : Type 0 where
   pub table : List Triangle
   pub polygons : List Member
+
+-- A sheet has at most 65 members, the table and 64 polygons.
+abbrev pub members : ℕ
+members = 65
 
 abbrev pub pointNumbers : Point → List ℤ
 pointNumbers p = p .x ∷ p .y ∷ []

@@ -28,13 +28,12 @@ use mathlib.Core.Logic.{_↔_}
 use mathlib.Core.List.{List, [], _∷_, _++_, map, flatMap, append-assoc}
 use Prim.Native.Nat.{ℕ, suc, _-_, _^_, _≤_, _<_}
 use native.Mathlib.Omega.{arith}
-use borrow.Author.Tests.{le-leb, leb-true, eqb-true}
-use lib.Dec.{leb, eqb}
+use borrow.Author.Tests.{eqb-true}
+use lib.Dec.{eqb}
 use lib.ListN.{length, drop}
 use Rattle.whole.specs.Sums.{All}
 use Rattle.whole.proofs.Tests.{by-equal}
 use Rattle.plane.specs.Corners.{millimetres}
-use Rattle.sheet_coordinate.proofs.Doubles.{and-true}
 use Rattle.wkb.specs.declared.Cursor.{Cursor}
 use Rattle.wkb_kinds.specs.declared.Slot.the-variants.{Sheet as TheSheet, Table as TheTable}
 use Rattle.wkb_kinds.specs.declared.Kind.{Kind}
@@ -49,18 +48,19 @@ use Rattle.sheet.proofs.Run.{reading-starts}
 use Rattle.sheet_standard.proofs.Standard.Fields.{Bytes, heading, heading-is, heads}
 use Rattle.sheet_standard.proofs.Standard.Steps.{AtGeometry, geometry-goes, geometry-back}
 use Rattle.sheet_standard.proofs.Standard.Left.{Top, Ends, millimetres-count, no-list}
+use Rattle.sheet_standard.proofs.Standard.Opened.{count-fits, fits-count}
 use Rattle.sheet_standard.proofs.Standard.Table.{InTable, TableStands, membersOutcome, tableOutcome}
 use Rattle.sheet_standard.proofs.Standard.TableInduction.{table-through, table-back}
 use Rattle.sheet_standard.proofs.NumbersForm.{numbersOf-injective}
 
--- Reading s answers the sheet n: code 0, and the numbers are n's.
-abbrev pub Reads : List ℕ → Sheet → Type 0
-Reads s n = (readingOf s .code ≡ 0) × (map millimetres (readingOf s .numbers) ≡ numbersOf n)
+-- Reading s as a sheet of at most so many members answers the sheet n: code 0, and the numbers are n's.
+abbrev pub Reads : ℕ → List ℕ → Sheet → Type 0
+Reads limit s n = (readingOf limit s .code ≡ 0) × (map millimetres (readingOf limit s .numbers) ≡ numbersOf n)
 
 -- ---- the two headers
 -- The place after the sheet's header, and after the table's; what was taken then.
-abbrev tablePlace : ℕ → Cursor
-tablePlace n = record {
+abbrev tablePlace : ℕ → ℕ → Cursor
+tablePlace limit n = record {
   at = 9;
   member = 1;
   members = n - 1;
@@ -74,10 +74,11 @@ tablePlace n = record {
   points = 0;
   polygons = 0;
   total = 0;
+  limit = limit;
 }
 
-abbrev piecesPlace : ℕ → ℕ → Cursor
-piecesPlace n m = record {
+abbrev piecesPlace : ℕ → ℕ → ℕ → Cursor
+piecesPlace limit n m = record {
   at = 18;
   member = 1;
   members = n - 1;
@@ -91,45 +92,46 @@ piecesPlace n m = record {
   points = 0;
   polygons = 0;
   total = 0;
+  limit = limit;
 }
 
 abbrev tableTaken : ℕ → Taken
 tableTaken m = record { numbers = held m ∷ []; mark = 0; first = false; x = 0; y = 0 }
 
-sheet-next : AtGeometry start
-sheet-next = record { no-points = refl; no-rings = refl; more = refl }
+sheet-next : (limit : ℕ) → AtGeometry (start limit)
+sheet-next limit = record { no-points = refl; no-rings = refl; more = refl }
 
-table-next : (n : ℕ) → AtGeometry (tablePlace n)
+table-next : (limit n : ℕ) → AtGeometry (tablePlace limit n)
 unfolding complete
-table-next n = record { no-points = refl; no-rings = refl; more = refl }
+table-next limit n = record { no-points = refl; no-rings = refl; more = refl }
 
-sheet-slot : slotOf start ≡ TheSheet
+sheet-slot : (limit : ℕ) → slotOf (start limit) ≡ TheSheet
 unfolding slotOf
-sheet-slot = refl
+sheet-slot limit = refl
 
-table-slot : (n : ℕ) → slotOf (tablePlace n) ≡ TheTable
+table-slot : (limit n : ℕ) → slotOf (tablePlace limit n) ≡ TheTable
 unfolding slotOf
-table-slot n = refl
+table-slot limit n = refl
 
-sheet-opened : (little : Bool) (kind n : ℕ) → opened TheSheet start little kind n ≡ tablePlace n
+sheet-opened : (limit : ℕ) (little : Bool) (kind n : ℕ) → opened TheSheet (start limit) little kind n ≡ tablePlace limit n
 unfolding opened withSheet
-sheet-opened little kind n = refl
+sheet-opened limit little kind n = refl
 
-table-opened : (n : ℕ) (little : Bool) (kind m : ℕ) → opened TheTable (tablePlace n) little kind m ≡ piecesPlace n m
+table-opened : (limit n : ℕ) (little : Bool) (kind m : ℕ) → opened TheTable (tablePlace limit n) little kind m ≡ piecesPlace limit n m
 unfolding opened withParts popped
-table-opened n little kind m = refl
+table-opened limit n little kind m = refl
 
-sheet-taken : (c : Cursor) (kind n : ℕ) → opening TheSheet start c kind n nothing ≡ nothing
+sheet-taken : (limit : ℕ) (c : Cursor) (kind n : ℕ) → opening TheSheet (start limit) c kind n nothing ≡ nothing
 unfolding opening
-sheet-taken c kind n = refl
+sheet-taken limit c kind n = refl
 
-table-taken : (n : ℕ) (c : Cursor) (kind m : ℕ) → opening TheTable (tablePlace n) c kind m nothing ≡ tableTaken m
+table-taken : (limit n : ℕ) (c : Cursor) (kind m : ℕ) → opening TheTable (tablePlace limit n) c kind m nothing ≡ tableTaken m
 unfolding opening
-table-taken n c kind m = refl
+table-taken limit n c kind m = refl
 
-sheet-kind : kindFault TheSheet start 7 ≡ 0
+sheet-kind : (c : Cursor) → kindFault TheSheet c 7 ≡ 0
 unfolding kindFault
-sheet-kind = refl
+sheet-kind c = refl
 
 table-kind : (c : Cursor) → kindFault TheTable c 16 ≡ 0
 unfolding kindFault
@@ -143,27 +145,11 @@ kind-table : (c : Cursor) (k : ℕ) → kindFault TheTable c k ≡ 0 → k ≡ 1
 unfolding kindFault
 kind-table c k = by-equal (λ (m : ℕ). m ≡ 0 → k ≡ 16) (eqb k 16) _ _ (λ e h. eqb-true k 16 e) (λ e h. absurd (omega arith))
 
-sheet-count : (n : ℕ) → FromTo 1 65 n → countFits TheSheet n ≡ true
-unfolding countFits
-sheet-count n h = rw (le-leb 1 n (h .0), le-leb n 65 (h .1)) refl
-
-count-sheet : (n : ℕ) → countFits TheSheet n ≡ true → FromTo 1 65 n
-unfolding countFits
-count-sheet n e = let w = and-true (leb 1 n) (leb n 65) e in (leb-true 1 n (w .0), leb-true n 65 (w .1))
-
-table-count : (n : ℕ) → FromTo 2 1024 n → countFits TheTable n ≡ true
-unfolding countFits
-table-count n h = rw (le-leb 2 n (h .0), le-leb n 1024 (h .1)) refl
-
-count-table : (n : ℕ) → countFits TheTable n ≡ true → FromTo 2 1024 n
-unfolding countFits
-count-table n e = let w = and-true (leb 2 n) (leb n 1024) e in (leb-true 2 n (w .0), leb-true n 1024 (w .1))
-
-table-place : (s : List ℕ) (n m : ℕ) → 18 ≤ length s → InTable s (piecesPlace n m)
-table-place s n m h = record { within = h; member = refl; no-header = refl; no-second = refl; no-third = refl; no-fourth = refl; total = omega arith }
+table-place : (limit : ℕ) (s : List ℕ) (n m : ℕ) → FromTo 1 limit n → 18 ≤ length s → InTable s (piecesPlace limit n m)
+table-place limit s n m f h = record { within = h; member = refl; no-header = refl; no-second = refl; no-third = refl; no-fourth = refl; total = omega arith; members = omega (arith, f .0, f .1) }
 
 -- ---- from the tree to the reading
-length-each : {A : Type 0} (f : Geometry → A) (gs : Geometries) → length (each f gs) ≡ count gs
+pub length-each : {A : Type 0} (f : Geometry → A) (gs : Geometries) → length (each f gs) ≡ count gs
 length-each f none = refl
 length-each f (g then gs) = ap suc (length-each f gs)
 
@@ -171,10 +157,10 @@ sheet-numbers : (l₁ l₂ : Bool) (gs ms : Geometries) → tableOutcome (tableT
 unfolding tableOutcome membersOutcome flatMap sheetOf
 sheet-numbers l₁ l₂ gs ms = rw (length-each triangleOf gs, length-each memberOf ms, millimetres-count (count gs)) refl
 
-headers-through : (s : List ℕ) (l₁ l₂ : Bool) (gs ms : Geometries) → count ms ≤ 64 → FromTo 2 1024 (count gs) → Each PieceFits gs → Each Top ms → allLengths (each memberOf ms) ≤ 4096
-    → encode (holding l₁ Collection (holding l₂ Tin gs then ms)) ≡ s → Ends (reading s start nothing) (numbersOf (sheetOf (holding l₁ Collection (holding l₂ Tin gs then ms))))
-unfolding encode encodeAll flatMap
-headers-through s l₁ l₂ gs ms many f pieces members total e =
+headers-through : (limit : ℕ) (s : List ℕ) (l₁ l₂ : Bool) (gs ms : Geometries) → limit < 2 ^ 32 → suc (count ms) ≤ limit → FromTo 2 1024 (count gs) → Each PieceFits gs → Each Top ms → allLengths (each memberOf ms) ≤ 4096
+    → encode (holding l₁ Collection (holding l₂ Tin gs then ms)) ≡ s → Ends (reading s (start limit) nothing) (numbersOf (sheetOf (holding l₁ Collection (holding l₂ Tin gs then ms))))
+unfolding encode encodeAll flatMap countFits
+headers-through limit s l₁ l₂ gs ms word many f pieces members total e =
     let n : ℕ = suc (count ms) in
     let m : ℕ = count gs in
     let n4 : n < 256 ^ 4 = omega arith in
@@ -184,15 +170,15 @@ headers-through s l₁ l₂ gs ms many f pieces members total e =
     let nine : 9 ≤ length s = q .nine in
     let r = heads s 9 l₂ 16 m (encodeAll gs ++ encodeAll ms) nine (omega arith) m4 (q .next ∙ append-assoc (heading l₂ 16 m) (encodeAll gs) (encodeAll ms)) in
     rw (
-      geometry-goes s start nothing TheSheet l₁ 7 n _ sheet-next sheet-slot q sheet-kind (sheet-count n (omega arith)),
-      sheet-opened l₁ 7 n,
-      sheet-taken (tablePlace n) 7 n,
-      geometry-goes s (tablePlace n) nothing TheTable l₂ 16 m _ (table-next n) (table-slot n) r (table-kind (tablePlace n)) (table-count m f),
-      table-opened n l₂ 16 m,
-      table-taken n (piecesPlace n m) 16 m,
+      geometry-goes s (start limit) nothing TheSheet l₁ 7 n _ (sheet-next limit) (sheet-slot limit) q (sheet-kind (start limit)) (count-fits 1 limit n (omega arith, many)),
+      sheet-opened limit l₁ 7 n,
+      sheet-taken limit (tablePlace limit n) 7 n,
+      geometry-goes s (tablePlace limit n) nothing TheTable l₂ 16 m _ (table-next limit n) (table-slot limit n) r (table-kind (tablePlace limit n)) (count-fits 2 1024 m f),
+      table-opened limit n l₂ 16 m,
+      table-taken limit n (piecesPlace limit n m) 16 m,
       ← sheet-numbers l₁ l₂ gs ms,
     )
-    (table-through (suc (length s)) s (piecesPlace n m) (tableTaken m) [] [] gs ms (omega arith) (table-place s n m (r .nine)) (omega (arith, f .0)) (record {
+    (table-through (suc (length s)) s (piecesPlace limit n m) (tableTaken m) [] [] gs ms (omega arith) (table-place limit s n m (omega arith, many) (r .nine)) (omega (arith, f .0)) (record {
       points-number = refl;
       rings-number = refl;
       pieces-number = refl;
@@ -206,24 +192,24 @@ headers-through s l₁ l₂ gs ms many f pieces members total e =
       total-fits = omega arith;
     }))
 
-tree-through : (s : List ℕ) (g : Geometry) → SheetFits g → encode g ≡ s → Ends (reading s start nothing) (numbersOf (sheetOf g))
+tree-through : (limit : ℕ) (s : List ℕ) (g : Geometry) → limit < 2 ^ 32 → SheetFits limit g → encode g ≡ s → Ends (reading s (start limit) nothing) (numbersOf (sheetOf g))
 unfolding SheetFits
-tree-through s (ringed little kind rs) f e = absurd f
-tree-through s (holding little kind none) f e = absurd f
-tree-through s (holding little kind (ringed l₂ k₂ rs then ms)) f e = absurd (f .2)
-tree-through s (holding l₁ k₁ (holding l₂ k₂ gs then ms)) f e =
-    subst (λ (k : Kind). encode (holding l₁ k (holding l₂ k₂ gs then ms)) ≡ s → Ends (reading s start nothing) (numbersOf (sheetOf (holding l₁ k (holding l₂ k₂ gs then ms))))) (sym (f .0))
-    (subst (λ (k : Kind). encode (holding l₁ Collection (holding l₂ k gs then ms)) ≡ s → Ends (reading s start nothing) (numbersOf (sheetOf (holding l₁ Collection (holding l₂ k gs then ms))))) (sym (f .2 .0))
-    (headers-through s l₁ l₂ gs ms (f .1) (f .2 .1) (f .2 .2) (f .3) (f .4))) e
+tree-through limit s (ringed little kind rs) word f e = absurd f
+tree-through limit s (holding little kind none) word f e = absurd f
+tree-through limit s (holding little kind (ringed l₂ k₂ rs then ms)) word f e = absurd (f .2)
+tree-through limit s (holding l₁ k₁ (holding l₂ k₂ gs then ms)) word f e =
+    subst (λ (k : Kind). encode (holding l₁ k (holding l₂ k₂ gs then ms)) ≡ s → Ends (reading s (start limit) nothing) (numbersOf (sheetOf (holding l₁ k (holding l₂ k₂ gs then ms))))) (sym (f .0))
+    (subst (λ (k : Kind). encode (holding l₁ Collection (holding l₂ k gs then ms)) ≡ s → Ends (reading s (start limit) nothing) (numbersOf (sheetOf (holding l₁ Collection (holding l₂ k gs then ms))))) (sym (f .2 .0))
+    (headers-through limit s l₁ l₂ gs ms word (f .1) (f .2 .1) (f .2 .2) (f .3) (f .4))) e
 
 -- ---- from the reading to the tree
-tree-stood : (s : List ℕ) (l₁ l₂ : Bool) (n m : ℕ) (gs ms : Geometries) → FromTo 1 65 n → FromTo 2 1024 m → drop 0 s ≡ heading l₁ 7 n ++ drop 9 s → drop 9 s ≡ heading l₂ 16 m ++ drop 18 s
-    → TableStands s (piecesPlace n m) (tableTaken m) [] [] gs ms → (g : Geometry) × SheetFits g × (encode g ≡ s)
+tree-stood : (limit : ℕ) (s : List ℕ) (l₁ l₂ : Bool) (n m : ℕ) (gs ms : Geometries) → FromTo 1 limit n → FromTo 2 1024 m → drop 0 s ≡ heading l₁ 7 n ++ drop 9 s → drop 9 s ≡ heading l₂ 16 m ++ drop 18 s
+    → TableStands s (piecesPlace limit n m) (tableTaken m) [] [] gs ms → (g : Geometry) × SheetFits limit g × (encode g ≡ s)
 unfolding SheetFits encode encodeAll flatMap
-tree-stood s l₁ l₂ n m gs ms f k e0 e9 h =
+tree-stood limit s l₁ l₂ n m gs ms f k e0 e9 h =
     let p : count gs ≡ m = h .pieces-number in
     let q : suc (count ms) ≡ n = let z = h .members-number in let l = f .0 in omega arith in
-    let many : count ms ≤ 64 = omega (arith, f .1) in
+    let many : suc (count ms) ≤ limit = omega (arith, f .1) in
     let number : FromTo 2 1024 (count gs) = (omega (arith, k .0), omega (arith, k .1)) in
     let total : allLengths (each memberOf ms) ≤ 4096 = let z = h .total-fits in omega arith in
     let bytes : encode (holding l₁ Collection (holding l₂ Tin gs then ms)) ≡ s =
@@ -231,37 +217,40 @@ tree-stood s l₁ l₂ n m gs ms f k e0 e9 h =
     (sym (e0 ∙ ap (λ l. heading l₁ 7 n ++ l) (e9 ∙ ap (λ l. heading l₂ 16 m ++ l) (h .bytes) ∙ sym (append-assoc (heading l₂ 16 m) (encodeAll gs) (encodeAll ms))))) in
     (holding l₁ Collection (holding l₂ Tin gs then ms), (refl, many, (refl, number, h .pieces-fit), h .members-fit, total), bytes)
 
-tree-back : (s : List ℕ) → Bytes s → reading s start nothing .code ≡ 0 → (g : Geometry) × SheetFits g × (encode g ≡ s)
-tree-back s bytes code =
-    let a = geometry-back s start nothing bytes sheet-next code in
+tree-back : (limit : ℕ) (s : List ℕ) → Bytes s → reading s (start limit) nothing .code ≡ 0 → (g : Geometry) × SheetFits limit g × (encode g ≡ s)
+unfolding countFits
+tree-back limit s bytes code =
+    let a = geometry-back s (start limit) nothing bytes (sheet-next limit) code in
     let n = a .n in
-    let f : FromTo 1 65 n = count-sheet n (rw sheet-slot at (a .counts)) in
-    let a7 : a .kind ≡ 7 = kind-sheet start (a .kind) (rw sheet-slot at (a .allowed)) in
-    let a-code : reading s (tablePlace n) nothing .code ≡ 0 = rw (sheet-slot, sheet-opened (a .little) (a .kind) n, sheet-taken (tablePlace n) (a .kind) n) at (a .on-with) in
-    let b = geometry-back s (tablePlace n) nothing bytes (table-next n) a-code in
+    let f : FromTo 1 limit n = fits-count 1 limit n (rw (sheet-slot limit) at (a .counts)) in
+    let a7 : a .kind ≡ 7 = kind-sheet (start limit) (a .kind) (rw (sheet-slot limit) at (a .allowed)) in
+    let a-code : reading s (tablePlace limit n) nothing .code ≡ 0 = rw (sheet-slot limit, sheet-opened limit (a .little) (a .kind) n, sheet-taken limit (tablePlace limit n) (a .kind) n) at (a .on-with) in
+    let b = geometry-back s (tablePlace limit n) nothing bytes (table-next limit n) a-code in
     let m = b .n in
-    let k : FromTo 2 1024 m = count-table m (rw (table-slot n) at (b .counts)) in
-    let b16 : b .kind ≡ 16 = kind-table (tablePlace n) (b .kind) (rw (table-slot n) at (b .allowed)) in
-    let b-code : reading s (piecesPlace n m) (tableTaken m) .code ≡ 0 = rw (table-slot n, table-opened n (b .little) (b .kind) m, table-taken n (piecesPlace n m) (b .kind) m) at (b .on-with) in
-    let v = table-back (suc (length s)) s (piecesPlace n m) (tableTaken m) (omega arith) bytes (table-place s n m (b .nine)) (omega (arith, k .0)) b-code in
-    tree-stood s (a .little) (b .little) n m (v .2) (v .3) f k (rw a7 at (a .bytes)) (rw b16 at (b .bytes))
+    let k : FromTo 2 1024 m = fits-count 2 1024 m (rw (table-slot limit n) at (b .counts)) in
+    let b16 : b .kind ≡ 16 = kind-table (tablePlace limit n) (b .kind) (rw (table-slot limit n) at (b .allowed)) in
+    let b-code : reading s (piecesPlace limit n m) (tableTaken m) .code ≡ 0 = rw (table-slot limit n, table-opened limit n (b .little) (b .kind) m, table-taken limit n (piecesPlace limit n m) (b .kind) m) at (b .on-with) in
+    let v = table-back (suc (length s)) s (piecesPlace limit n m) (tableTaken m) (omega arith) bytes (table-place limit s n m f (b .nine)) (omega (arith, k .0)) b-code in
+    tree-stood limit s (a .little) (b .little) n m (v .2) (v .3) f k (rw a7 at (a .bytes)) (rw b16 at (b .bytes))
     (rw (no-list (v .0) (v .4 .points-number), no-list (v .1) (v .4 .rings-number)) at (v .4))
 
 -- ---- the theorem
-pub reads-the-standard : (s : List ℕ) → All (λ b. b < 256) s → (n : Sheet) → Reads s n ↔ ((g : Geometry) × SheetFits g × (encode g ≡ s) × (sheetOf g ≡ n))
-reads-the-standard s bytes n = (to, from)
-  where
-    to : Reads s n → (g : Geometry) × SheetFits g × (encode g ≡ s) × (sheetOf g ≡ n)
-    to h =
-        let t = tree-back s bytes (rw (reading-starts s) at (h .0)) in
-        let k = tree-through s (t .0) (t .1) (t .2) in
-        (t .0, t .1, t .2, numbersOf-injective (sheetOf (t .0)) n (sym (k .1) ∙ rw (reading-starts s) at (h .1)))
+-- A count is a u32, and so is the limit.
+module _ (limit : ℕ) (word : limit < 2 ^ 32) where
+  pub reads-the-standard : (s : List ℕ) → All (λ b. b < 256) s → (n : Sheet) → Reads limit s n ↔ ((g : Geometry) × SheetFits limit g × (encode g ≡ s) × (sheetOf g ≡ n))
+  reads-the-standard s bytes n = (to, from)
+    where
+      to : Reads limit s n → (g : Geometry) × SheetFits limit g × (encode g ≡ s) × (sheetOf g ≡ n)
+      to h =
+          let t = tree-back limit s bytes (rw (reading-starts limit s) at (h .0)) in
+          let k = tree-through limit s (t .0) word (t .1) (t .2) in
+          (t .0, t .1, t .2, numbersOf-injective (sheetOf (t .0)) n (sym (k .1) ∙ rw (reading-starts limit s) at (h .1)))
 
-    from : (g : Geometry) × SheetFits g × (encode g ≡ s) × (sheetOf g ≡ n) → Reads s n
-    from h = rw (reading-starts s, ← h .3) (tree-through s (h .0) (h .1) (h .2))
+      from : (g : Geometry) × SheetFits limit g × (encode g ≡ s) × (sheetOf g ≡ n) → Reads limit s n
+      from h = rw (reading-starts limit s, ← h .3) (tree-through limit s (h .0) word (h .1) (h .2))
 
--- Bytes that are read with code 0 are read as a sheet.
-pub reads-some : (s : List ℕ) → All (λ b. b < 256) s → readingOf s .code ≡ 0 → (n : Sheet) × Reads s n
-reads-some s bytes code =
-    let t = tree-back s bytes (rw (reading-starts s) at code) in
-    (sheetOf (t .0), rw (reading-starts s) (tree-through s (t .0) (t .1) (t .2)))
+  -- Bytes that are read with code 0 are read as a sheet.
+  pub reads-some : (s : List ℕ) → All (λ b. b < 256) s → readingOf limit s .code ≡ 0 → (n : Sheet) × Reads limit s n
+  reads-some s bytes code =
+      let t = tree-back limit s bytes (rw (reading-starts limit s) at code) in
+      (sheetOf (t .0), rw (reading-starts limit s) (tree-through limit s (t .0) word (t .1) (t .2)))

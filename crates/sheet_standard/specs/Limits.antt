@@ -121,14 +121,14 @@ abbrev pub allLengths : List Member → ℕ
 allLengths [] = 0
 allLengths (m ∷ l) = lengths m + allLengths l
 
--- A sheet within the limits: a collection of 1 to 65 members, first a table of 2 to 1,024 pieces, then members with at most 64 polygons
+-- A sheet within the limits: a collection of at most so many members, first a table of 2 to 1,024 pieces, then members with at most 64 polygons
 -- each after unfolding and 4,096 points in all; collections at most 4 deep with the sheet counted as 1.
 abbrev pub TableFits : Geometry → Type 0
 TableFits (ringed little kind rs) = ⊥
 TableFits (holding little kind gs) = (kind ≡ Tin) × FromTo 2 1024 (count gs) × Each PieceFits gs
 
-unfoldable pub SheetFits : Geometry → Type 0
-SheetFits (ringed little kind rs) = ⊥
-SheetFits (holding little kind none) = ⊥
-SheetFits (holding little kind (t then ms)) =
-    (kind ≡ Collection) × (count ms ≤ 64) × TableFits t × Each (λ g. MemberFits g 3 × (length (memberOf g) ≤ 64)) ms × (allLengths (each memberOf ms) ≤ 4096)
+unfoldable pub SheetFits : ℕ → Geometry → Type 0
+SheetFits limit (ringed little kind rs) = ⊥
+SheetFits limit (holding little kind none) = ⊥
+SheetFits limit (holding little kind (t then ms)) =
+    (kind ≡ Collection) × (count (t then ms) ≤ limit) × TableFits t × Each (λ g. MemberFits g 3 × (length (memberOf g) ≤ 64)) ms × (allLengths (each memberOf ms) ≤ 4096)

@@ -16,6 +16,7 @@ use Rattle.sheet_coordinate.proofs.Doubles.{and-true}
 use Rattle.lent_little.specs.Ordered.{wordAt}
 use Rattle.sheet_written.specs.Fits.{fromTo}
 use Rattle.sheet_form.specs.Form.{numbersIn}
+use Rattle.sheet_form.specs.Numbers.{members}
 use Rattle.sheet_writer.specs.declared.Walk.{Walk}
 use Rattle.sheet_writer.specs.Emit.{followed, emit, polygonCount, emitTable, emitSheet}
 use Rattle.sheet_writer.specs.Walks.{beginning, Went}
@@ -84,8 +85,8 @@ module _ {s : List ℕ} {t : ℕ} (b : Begun s t) where
       counted : polygonCount t (drop 1 (numbersIn s)) ≡ toZ w32 p
       counted = number-behind s 1 (6 * t) there ∙ ap (toZ w32) (sym p-is)
 
-      pub bad-count : 64 < p → emitSheet (numbersIn s) ≡ none
+      pub bad-count : members ≤ p → emitSheet (numbersIn s) ≡ none
       bad-count h = ap emitSheet first ∙ wrong-count t (drop 1 (numbersIn s)) (λ n e k. let q = natural p n (sym counted ∙ e) in absurd (let z : p ≤ 64 = rw q k in omega arith))
 
-      pub good-count : p ≤ 64 → polygonCount t (drop 1 (numbersIn s)) ≡ pos p
+      pub good-count : p < members → polygonCount t (drop 1 (numbersIn s)) ≡ pos p
       good-count h = counted ∙ signed-low p (omega arith)

@@ -18,7 +18,8 @@ use Rattle.plane.specs.Members.{Ring, Polygon, Member}
 use Rattle.wkb_kinds.specs.declared.Kind.the-variants.{Collection, Tin, Triangle as Three}
 use Rattle.lent_little.specs.Ordered.{bytesOf}
 use Rattle.wkb.specs.Standard.{Geometry, count, header, encodePoint, encodeRing, encode, encodeAll}
-use Rattle.sheet_form.specs.Numbers.{Sheet, pointNumbers, triangleNumbers}
+use Rattle.wkb.proofs.Steps.{within}
+use Rattle.sheet_form.specs.Numbers.{Sheet, members, pointNumbers, triangleNumbers}
 use Rattle.sheet_standard.specs.Limits.{ringLengths, lengths, allLengths}
 use Rattle.sheet_form.specs.Form.{Front, after, pointIn, triangleIn, manyIn, countedIn, ringIn, partIn, memberIn, whole, sheetIn}
 use Rattle.sheet_written.specs.Fits.{fromTo, pointFits, triangleFits, origin, closed, ringFits, partFits, memberFits, sheetFits}
@@ -273,14 +274,14 @@ member = counted partIn partFits (λ p. encode (partOf p)) (total (total (λ p. 
 
 -- ---- the polygons of the sheet
 abbrev allFit : List Member → Bool
-allFit l = leb (length l) 64 && every memberFits l
+allFit l = leb (length l + 1) members && every memberFits l
 
 all : Emits (countedIn memberIn) allFit (flatMap (λ m. encode (memberTree m))) (total (total (total (total (λ p. 1))))) (emit 4)
 unfolding emit closes heading
 all = counted memberIn memberFits (λ m. encode (memberTree m)) (total (total (total (λ p. 1)))) (emit 3) member 4 allFit (flatMap (λ m. encode (memberTree m))) tests (λ a t. refl)
   where
     tests : (l : List ℤ) (a : List Member) (r : List ℤ) → manyIn memberIn (length a) l ≡ some (a, r) → allFit a ≡ fromTo 0 64 (length a) && closes 4 (length a) l && every memberFits a
-    tests l a r e = rw (leb·zero (length a)) (open-true (leb (length a) 64) (every memberFits a))
+    tests l a r e = rw (leb·zero (length a), ← within (length a) 1 (length a + 1) members (omega arith) refl) (open-true (leb (length a) 64) (every memberFits a))
 
 -- The points among them.
 ring-points : (r : Ring) → total (λ p. 1) r ≡ length r
@@ -393,7 +394,7 @@ abbrev pub writtenFor : Option Sheet → Option (List ℕ)
 writtenFor none = none
 writtenFor (some n) = some (written n)
 
-pub emit-sheet : (l : List ℤ) → emitSheet l ≡ writtenFor (limited (sheetIn l))
+pub emit-sheet : (l : List ℤ) → emitSheet l ≡ writtenFor (limited members (sheetIn l))
 unfolding emitSheet sheetFits
 emit-sheet [] = refl
 emit-sheet (negsuc t ∷ l) = refl
@@ -421,12 +422,12 @@ emit-sheet (pos t ∷ l) = go (manyIn triangleIn t l) refl
     ends : (m : List Triangle) (p : List Member) (q : List ℤ)
         → cond (fromTo 2 1024 (length m) && every triangleFits m && allFit p)
         (ended (some (record { bytes = written (record { table = m; polygons = p }); points = allLengths p; rest = q }))) none
-        ≡ writtenFor (limited (whole (record { table = m; polygons = p }) q))
-    ends m p [] = choose (fromTo 2 1024 (length m)) (every triangleFits m) (leb (length p) 64) (every memberFits p) (leb (allLengths p) 4096) _ (record { table = m; polygons = p }) refl
+        ≡ writtenFor (limited members (whole (record { table = m; polygons = p }) q))
+    ends m p [] = choose (fromTo 2 1024 (length m)) (every triangleFits m) (leb (length p + 1) members) (every memberFits p) (leb (allLengths p) 4096) _ (record { table = m; polygons = p }) refl
     ends m p (z ∷ q) = rw (leb·suc-zero (length q)) (no-choice (fromTo 2 1024 (length m) && every triangleFits m && allFit p) none)
 
     behind : (m : List Triangle) (r : List ℤ) → manyIn triangleIn t l ≡ some (m, r) → (y : Front (List Member)) → countedIn memberIn r ≡ y
-        → emitSheet (pos t ∷ l) ≡ writtenFor (limited (after y (λ p q. whole (record { table = m; polygons = p }) q)))
+        → emitSheet (pos t ∷ l) ≡ writtenFor (limited members (after y (λ p q. whole (record { table = m; polygons = p }) q)))
     behind m r e none u =
         nothing t l (λ n s f. ap (emit 4) (parts (sym f ∙ e) .1) ∙ all r ∙ ap (emitted allFit (flatMap (λ m. encode (memberTree m))) (total (total (total (total (λ p. 1)))))) u)
     behind m r e (some (p, q)) u =
@@ -443,7 +444,7 @@ emit-sheet (pos t ∷ l) = go (manyIn triangleIn t l) refl
         ∙ rw (is, all-points p, ← len) (ends m p q)
 
     go : (x : Front (List Triangle)) → manyIn triangleIn t l ≡ x
-        → emitSheet (pos t ∷ l) ≡ writtenFor (limited (after x (λ m k. after (countedIn memberIn k) (λ p q. whole (record { table = m; polygons = p }) q))))
+        → emitSheet (pos t ∷ l) ≡ writtenFor (limited members (after x (λ m k. after (countedIn memberIn k) (λ p q. whole (record { table = m; polygons = p }) q))))
     go none e = nothing t l (λ m r u. absurd (Option·none-ne-some _ (sym e ∙ u)))
     go (some (m, r)) e = behind m r e (countedIn memberIn r) refl
 

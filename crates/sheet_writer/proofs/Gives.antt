@@ -11,7 +11,7 @@ use borrow.Author.Tests.{eq-eqb, ne-eqb}
 use lib.Dec.{T}
 use lib.ListN.{length, drop}
 use lib.Seq.{sets-eq}
-use Rattle.sheet_form.specs.Numbers.{Sheet, numbersOf}
+use Rattle.sheet_form.specs.Numbers.{Sheet, members, numbersOf}
 use Rattle.sheet_written.specs.Fits.{sheetFits}
 use Rattle.sheet_form.specs.Form.{sheetIn, numbersIn}
 use Rattle.sheet_written.specs.Given.{limited, sheetGiven}
@@ -27,50 +27,50 @@ use Rattle.sheet_writer.proofs.Numbers.{numbers-length}
 -- A sheet that is given is within the limits.
 record Given (x : Option Sheet) (n : Sheet) : Type 0 where
   is : x ≡ some n
-  fits : T (sheetFits n)
+  fits : T (sheetFits members n)
 
-given : (x : Option Sheet) (n : Sheet) → limited x ≡ some n → Given x n
+given : (x : Option Sheet) (n : Sheet) → limited members x ≡ some n → Given x n
 given none n e = absurd (Option·none-ne-some _ e)
-given (some m) n e = go (sheetFits m) refl e
+given (some m) n e = go (sheetFits members m) refl e
   where
-    go : (b : Bool) → sheetFits m ≡ b → cond b (some m) none ≡ some n → Given (some m) n
-    go true f e = let q = Option·some-injective m n e in record { is = ap some q; fits = subst (λ k. T (sheetFits k)) q (subst T (sym f) tt) }
+    go : (b : Bool) → sheetFits members m ≡ b → cond b (some m) none ≡ some n → Given (some m) n
+    go true f e = let q = Option·some-injective m n e in record { is = ap some q; fits = subst (λ k. T (sheetFits members k)) q (subst T (sym f) tt) }
     go false f e = absurd (Option·none-ne-some _ e)
 
 pub record Seen (s : List ℕ) (r : Walk) : Type 0 where
   pub sheet : Sheet
-  pub is : sheetGiven s ≡ some sheet
+  pub is : sheetGiven members s ≡ some sheet
   pub to-is : r .to ≡ length (written sheet)
 
 module _ (s : List ℕ) where
   -- A length that is no multiple of 4.
-  pub given-odd : (length s % 4 ≡ 0 → ⊥) → sheetGiven s ≡ none
+  pub given-odd : (length s % 4 ≡ 0 → ⊥) → sheetGiven members s ≡ none
   unfolding sheetGiven
   given-odd h = rw (ne-eqb (length s % 4) 0 h) refl
 
   module _ (fours : length s % 4 ≡ 0) where
-    is-limited : sheetGiven s ≡ limited (sheetIn (numbersIn s))
+    is-limited : sheetGiven members s ≡ limited members (sheetIn (numbersIn s))
     unfolding sheetGiven
     is-limited = rw (eq-eqb (length s % 4) 0 fours) refl
 
     -- More numbers than any sheet has.
-    pub given-long : 65800 < length s → sheetGiven s ≡ none
-    given-long h = go (sheetGiven s) refl
+    pub given-long : 65800 < length s → sheetGiven members s ≡ none
+    given-long h = go (sheetGiven members s) refl
       where
-        go : (x : Option Sheet) → sheetGiven s ≡ x → x ≡ none
+        go : (x : Option Sheet) → sheetGiven members s ≡ x → x ≡ none
         go none e = refl
         go (some n) e =
             let g = given (sheetIn (numbersIn s)) n (sym is-limited ∙ e) in
             let q : length (numbersOf n) ≡ length (numbersIn s) = ap length (form-is (numbersIn s) n .0 (g .is)) in
-            let k = form-small n (g .fits) in
+            let k = form-small members (omega arith) n (g .fits) in
             let l = numbers-length s in
             absurd (omega arith)
 
-    for : emitSheet (numbersIn s) ≡ writtenFor (sheetGiven s)
+    for : emitSheet (numbersIn s) ≡ writtenFor (sheetGiven members s)
     for = emit-sheet (numbersIn s) ∙ ap writtenFor (sym is-limited)
 
-    pub ended-ill : (before after : List ℕ) (r : Walk) → Ended (emitSheet (numbersIn s)) before r after → r .good ≡ false → sheetGiven s ≡ none
-    ended-ill before after r h g = go (sheetGiven s) (subst (λ x. Ended x before r after) for h)
+    pub ended-ill : (before after : List ℕ) (r : Walk) → Ended (emitSheet (numbersIn s)) before r after → r .good ≡ false → sheetGiven members s ≡ none
+    ended-ill before after r h g = go (sheetGiven members s) (subst (λ x. Ended x before r after) for h)
       where
         go : (x : Option Sheet) → Ended (writtenFor x) before r after → x ≡ none
         go none k = refl
@@ -78,14 +78,14 @@ module _ (s : List ℕ) where
 
     -- A sheet is given, and the walk tells how long it is.
     pub ended-well : (before after : List ℕ) (r : Walk) → Ended (emitSheet (numbersIn s)) before r after → r .good ≡ true → Seen s r
-    ended-well before after r h g = go (sheetGiven s) refl (subst (λ x. Ended x before r after) for h)
+    ended-well before after r h g = go (sheetGiven members s) refl (subst (λ x. Ended x before r after) for h)
       where
-        go : (x : Option Sheet) → sheetGiven s ≡ x → Ended (writtenFor x) before r after → Seen s r
+        go : (x : Option Sheet) → sheetGiven members s ≡ x → Ended (writtenFor x) before r after → Seen s r
         go none e k = absurd (true≢false (sym g ∙ k .0))
         go (some n) e k = record { sheet = n; is = e; to-is = k .1 }
 
     -- The walk over the lent bytes writes the sheet that is given.
-    pub written-again : (before after : List ℕ) (r : Walk) (n : Sheet) → sheetGiven s ≡ some n → Ended (emitSheet (numbersIn s)) before r after → length (written n) ≤ length before
+    pub written-again : (before after : List ℕ) (r : Walk) (n : Sheet) → sheetGiven members s ≡ some n → Ended (emitSheet (numbersIn s)) before r after → length (written n) ≤ length before
         → after ≡ written n ++ drop (length (written n)) before
     written-again before after r n e h fits =
         let k = subst (λ x. Ended (writtenFor x) before r after) e (subst (λ x. Ended x before r after) for h) in

@@ -12,11 +12,13 @@ ghost use Rattle.lent_little.specs.Ordered.{wordAt};
 ghost use Rattle.wkb.specs.Standard.{header as headerOf};
 ghost use Rattle.sheet_written.specs.Fits.{inRange, fromTo};
 ghost use Rattle.sheet_form.specs.Form.{numbersIn};
+ghost use Rattle.sheet_form.specs.Numbers.{members};
 ghost use Rattle.sheet_written.specs.Normal.{patternOf};
 ghost use Rattle.sheet_writer.specs.Emit.{low, high, heading, closed, closes as closesAt, emitPoint, emitMany, emit, emitPiece, followed, polygonCount, emitTable, emitSheet};
 ghost use Rattle.sheet_writer.specs.Walks.{beginning, headed, Fair, Went, Ended};
 ghost use Rattle.sheet_written.specs.Given.{sheetGiven, writeOutcome};
 ghost use Rattle.lent.specs.Answered.{Answered};
+use sheet_form::MEMBERS;
 use wkb_kinds::Kind;
 
 // Where a walk over the numbers stands: the next number, the next lent byte, the points so far, and that nothing was wrong.
@@ -276,7 +278,7 @@ fn pieces(numbers: &[u8], out: &mut [u8], w: Walk, n: u32) -> Walk
 
 // The headers of the sheet and of its table, the pieces, and the polygons.
 fn body(numbers: &[u8], out: &mut [u8], t: u32, p: u32) -> Walk
-    requires { ⌜ (1 ≤ length (numbersIn (now numbers))) × (length (numbersIn (now numbers)) ≤ 16450) × (p ≤ 64) × (polygonCount t (drop 1 (numbersIn (now numbers))) ≡ pos p) ⌝ }
+    requires { ⌜ (1 ≤ length (numbersIn (now numbers))) × (length (numbersIn (now numbers)) ≤ 16450) × (p < members) × (polygonCount t (drop 1 (numbersIn (now numbers))) ≡ pos p) ⌝ }
     ensures { λ r. ⌜ Went (followed (emitTable t (drop 1 (numbersIn (now (numbers .entry))))) (emit 4)) (numbersIn (now (numbers .entry))) beginning (now (out .entry)) r (now (out .exit)) ⌝ }
 {
     header(out, 0, Kind::Collection, p + 1);
@@ -335,7 +337,7 @@ fn sheet(numbers: &[u8], out: &mut [u8]) -> Walk
         return none;
     }
     let p = bits(numbers, place);
-    if p > 64 {
+    if MEMBERS <= p {
         return none;
     }
     let u = body(numbers, out, t, p);
@@ -353,7 +355,7 @@ fn sheet(numbers: &[u8], out: &mut [u8]) -> Walk
 
 // Writes the normal bytes of the sheet that the numbers give; all of it is walked over first, with a byte of its own. 42 where they give none.
 pub fn write(numbers: &[u8], out: &mut [u8]) -> u64
-    ensures { λ r. ⌜ Answered (writeOutcome (sheetGiven (now (numbers .entry)))) (now (out .entry)) r (now (out .exit)) ⌝ }
+    ensures { λ r. ⌜ Answered (writeOutcome (sheetGiven members (now (numbers .entry)))) (now (out .entry)) r (now (out .exit)) ⌝ }
 {
     if numbers.len() % 4 != 0 {
         return 42;

@@ -8,7 +8,7 @@ use mathlib.Core.Option.{Option, none, some, Option·none-ne-some, Option·some-
 use mir.Syntax.{w32}
 use mir.Val.{SFits, toZ, ofZ}
 use mir.ValLaws.{ofZ-fits, toZ-ofZ, ofZ-toZ}
-use Prim.Native.Nat.{ℕ, _*_, _%_, _^_, _<_}
+use Prim.Native.Nat.{ℕ, _*_, _%_, _^_, _≤_, _<_}
 use native.Mathlib.Omega.{arith}
 use borrow.Author.Tests.{eq-eqb, eqb-true}
 use lib.Dec.{T, eqb}
@@ -16,6 +16,7 @@ use lib.IntN.{ℤ, pos, negsuc}
 use lib.ListN.{length, length-append}
 use Rattle.whole.specs.Sums.{All}
 use Rattle.whole.proofs.Sums.{all-of, all-flatMap}
+use Rattle.plane.specs.Corners.{offset}
 use Rattle.lent_little.specs.Ordered.{number, bytes}
 use Rattle.lent_little.specs.Bytes.{i32}
 use Rattle.lent_little.proofs.Ordered.{bytes-below, number-below, number-bytes, bytes-number}
@@ -65,41 +66,41 @@ pub form-bytes : (l : List ℤ) → All (λ x. x < 256) (flatMap i32 l)
 form-bytes l = all-flatMap (λ z. Unit {0}) (λ x. x < 256) i32 (λ z u. bytes-below 4 (ofZ w32 z)) l (all-of (λ z. Unit {0}) (λ z. tt) l)
 
 -- ---- the sheet that is given
-limited-is : (x : Option Sheet) (n : Sheet) → (limited x ≡ some n) ↔ (T (sheetFits n) × (x ≡ some n))
-limited-is none n = (λ e. absurd (Option·none-ne-some n e), λ h. h .1)
-limited-is (some m) n = (to (sheetFits m) refl, from)
+limited-is : (limit : ℕ) (x : Option Sheet) (n : Sheet) → (limited limit x ≡ some n) ↔ (T (sheetFits limit n) × (x ≡ some n))
+limited-is limit none n = (λ e. absurd (Option·none-ne-some n e), λ h. h .1)
+limited-is limit (some m) n = (to (sheetFits limit m) refl, from)
   where
-    to : (b : Bool) → sheetFits m ≡ b → cond b (some m) none ≡ some n → T (sheetFits n) × (some m ≡ some n)
-    to true e q = (subst (λ x. T (sheetFits x)) (Option·some-injective m n q) (subst T (sym e) tt), q)
+    to : (b : Bool) → sheetFits limit m ≡ b → cond b (some m) none ≡ some n → T (sheetFits limit n) × (some m ≡ some n)
+    to true e q = (subst (λ x. T (sheetFits limit x)) (Option·some-injective m n q) (subst T (sym e) tt), q)
     to false e q = absurd (Option·none-ne-some n q)
 
     kept : (b : Bool) → T b → cond b (some m) none ≡ some m
     kept true t = refl
     kept false t = absurd t
 
-    from : T (sheetFits n) × (some m ≡ some n) → limited (some m) ≡ some n
-    from (t, q) = kept (sheetFits m) (subst (λ x. T (sheetFits x)) (sym (Option·some-injective m n q)) t) ∙ q
+    from : T (sheetFits limit n) × (some m ≡ some n) → limited limit (some m) ≡ some n
+    from (t, q) = kept (sheetFits limit m) (subst (λ x. T (sheetFits limit x)) (sym (Option·some-injective m n q)) t) ∙ q
 
-given-is : (s : List ℕ) (n : Sheet) → (sheetGiven s ≡ some n) ↔ ((length s % 4 ≡ 0) × T (sheetFits n) × (numbersOf n ≡ numbersIn s))
+given-is : (limit : ℕ) (s : List ℕ) (n : Sheet) → (sheetGiven limit s ≡ some n) ↔ ((length s % 4 ≡ 0) × T (sheetFits limit n) × (numbersOf n ≡ numbersIn s))
 unfolding sheetGiven
-given-is s n = (to (eqb (length s % 4) 0) refl, from)
+given-is limit s n = (to (eqb (length s % 4) 0) refl, from)
   where
-    to : (b : Bool) → eqb (length s % 4) 0 ≡ b → cond b (limited (sheetIn (numbersIn s))) none ≡ some n → (length s % 4 ≡ 0) × T (sheetFits n) × (numbersOf n ≡ numbersIn s)
-    to true e q = let k = limited-is (sheetIn (numbersIn s)) n .0 q in (eqb-true (length s % 4) 0 e, k .0, form-is (numbersIn s) n .0 (k .1))
+    to : (b : Bool) → eqb (length s % 4) 0 ≡ b → cond b (limited limit (sheetIn (numbersIn s))) none ≡ some n → (length s % 4 ≡ 0) × T (sheetFits limit n) × (numbersOf n ≡ numbersIn s)
+    to true e q = let k = limited-is limit (sheetIn (numbersIn s)) n .0 q in (eqb-true (length s % 4) 0 e, k .0, form-is (numbersIn s) n .0 (k .1))
     to false e q = absurd (Option·none-ne-some n q)
 
-    from : (length s % 4 ≡ 0) × T (sheetFits n) × (numbersOf n ≡ numbersIn s) → cond (eqb (length s % 4) 0) (limited (sheetIn (numbersIn s))) none ≡ some n
-    from (z, t, e) = rw (eq-eqb (length s % 4) 0 z) (limited-is (sheetIn (numbersIn s)) n .1 (t, form-is (numbersIn s) n .1 e))
+    from : (length s % 4 ≡ 0) × T (sheetFits limit n) × (numbersOf n ≡ numbersIn s) → cond (eqb (length s % 4) 0) (limited limit (sheetIn (numbersIn s))) none ≡ some n
+    from (z, t, e) = rw (eq-eqb (length s % 4) 0 z) (limited-is limit (sheetIn (numbersIn s)) n .1 (t, form-is (numbersIn s) n .1 e))
 
-pub given-fits : (s : List ℕ) (n : Sheet) → sheetGiven s ≡ some n → T (sheetFits n)
-given-fits s n e = given-is s n .0 e .1
+pub given-fits : (limit : ℕ) (s : List ℕ) (n : Sheet) → sheetGiven limit s ≡ some n → T (sheetFits limit n)
+given-fits limit s n e = given-is limit s n .0 e .1
 
 -- Bytes give a sheet exactly if it is within the limits and they are its numbers form.
-pub given-form : (s : List ℕ) → All (λ x. x < 256) s → (n : Sheet) → (sheetGiven s ≡ some n) ↔ (T (sheetFits n) × (flatMap i32 (numbersOf n) ≡ s))
-given-form s h n = (to, from)
+pub given-form : (limit : ℕ) → limit ≤ offset → (s : List ℕ) → All (λ x. x < 256) s → (n : Sheet) → (sheetGiven limit s ≡ some n) ↔ (T (sheetFits limit n) × (flatMap i32 (numbersOf n) ≡ s))
+given-form limit l s h n = (to, from)
   where
-    to : sheetGiven s ≡ some n → T (sheetFits n) × (flatMap i32 (numbersOf n) ≡ s)
-    to e = let g = given-is s n .0 e in (g .1, ap (flatMap i32) (g .2) ∙ fours s (g .0) h)
+    to : sheetGiven limit s ≡ some n → T (sheetFits limit n) × (flatMap i32 (numbersOf n) ≡ s)
+    to e = let g = given-is limit s n .0 e in (g .1, ap (flatMap i32) (g .2) ∙ fours s (g .0) h)
 
-    from : T (sheetFits n) × (flatMap i32 (numbersOf n) ≡ s) → sheetGiven s ≡ some n
-    from (t, e) = given-is s n .1 (omega (arith, ap length e, form-length (numbersOf n)), t, sym (all-back (numbersOf n) (numbers-small n t)) ∙ ap numbersIn e)
+    from : T (sheetFits limit n) × (flatMap i32 (numbersOf n) ≡ s) → sheetGiven limit s ≡ some n
+    from (t, e) = given-is limit s n .1 (omega (arith, ap length e, form-length (numbersOf n)), t, sym (all-back (numbersOf n) (numbers-small limit n l t)) ∙ ap numbersIn e)

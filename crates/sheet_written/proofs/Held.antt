@@ -17,8 +17,9 @@ use Rattle.whole.proofs.Int.{up, down, is-add}
 use Rattle.whole.proofs.Sums.{and-left, and-right, all-++, all-flatMap, every-all}
 use Rattle.plane.specs.Points.{Point, Triangle}
 use Rattle.plane.specs.Members.{Ring, Polygon, Member, edges, memberEdges}
-use Rattle.plane.specs.Corners.{millimetres}
+use Rattle.plane.specs.Corners.{offset, millimetres}
 use Rattle.plane.specs.Keys.{Held}
+use Rattle.lent.specs.Stages.{value, refused}
 use Rattle.sheet_form.specs.Numbers.{Sheet, pointNumbers, triangleNumbers, counted, ringNumbers, partNumbers, memberNumbers, numbersOf}
 use Rattle.sheet.specs.Reading.{readingOf}
 use Rattle.sheet_standard.specs.Limits.{ringLengths, lengths, allLengths}
@@ -26,7 +27,7 @@ use Rattle.sheet_standard.proofs.Standard.{Reads, reads-some}
 use Rattle.sheet_written.specs.Fits.{inRange, pointFits, triangleFits, ringFits, partFits, memberFits, sheetFits}
 use Rattle.sheet_form.specs.Form.{sheetIn}
 use Rattle.sheet.specs.Held.{SheetHeld}
-use Rattle.sheet.specs.Read.{sheet, refused, made, readSheet}
+use Rattle.sheet.specs.Read.{made, readSheet}
 use Rattle.sheet_form.proofs.Form.{form-is}
 use Rattle.sheet_written.proofs.Normal.{from-to, ring-tests, part-tests, member-tests, tests}
 use Rattle.sheet_written.proofs.Trip.{read-written}
@@ -70,12 +71,12 @@ member-small m t =
     let k = member-tests m t in
     counted-small partNumbers partFits part-small m (omega (arith, from-to 1 64 (length m) (k .0) .1)) (k .1)
 
-pub numbers-small : (n : Sheet) → T (sheetFits n) → All Small (numbersOf n)
-numbers-small n h =
-    let k = tests n h in
+pub numbers-small : (limit : ℕ) (n : Sheet) → limit ≤ offset → T (sheetFits limit n) → All Small (numbersOf n)
+numbers-small limit n l h =
+    let k = tests limit n h in
     all-++ Small (counted triangleNumbers (n .table)) (counted memberNumbers (n .polygons))
     (counted-small triangleNumbers triangleFits triangle-small (n .table) (omega (arith, from-to 2 1024 (length (n .table)) (k .table) .1)) (k .pieces))
-    (counted-small memberNumbers memberFits member-small (n .polygons) (omega (arith, leb→le (length (n .polygons)) 64 (k .number))) (k .members))
+    (counted-small memberNumbers memberFits member-small (n .polygons) (omega (arith, leb→le (length (n .polygons) + 1) limit (k .number))) (k .members))
 
 -- ---- held numbers
 small-held : (h : ℕ) → Small (millimetres h) → Held h
@@ -111,47 +112,50 @@ few-edges (m ∷ l) h = (omega (arith, member-edges m), few-edges l (omega arith
 
 -- ---- the sheet
 -- Held numbers of a sheet within the limits.
-pub fits-held : (n : Sheet) (numbers : List ℕ) → T (sheetFits n) → map millimetres numbers ≡ numbersOf n → SheetHeld n numbers
-fits-held n numbers h e =
-    let k = tests n h in
+pub fits-held : (limit : ℕ) (n : Sheet) (numbers : List ℕ) → limit ≤ offset → T (sheetFits limit n) → map millimetres numbers ≡ numbersOf n → SheetHeld limit n numbers
+fits-held limit n numbers l h e =
+    let k = tests limit n h in
     let table = from-to 2 1024 (length (n .table)) (k .table) in
     record {
       is = e;
-      held = all-held numbers (subst (All Small) (sym e) (numbers-small n h));
+      held = all-held numbers (subst (All Small) (sym e) (numbers-small limit n l h));
       some = table .0;
       few = table .1;
-      few-polygons = leb→le (length (n .polygons)) 64 (k .number);
+      few-polygons = leb→le (length (n .polygons) + 1) limit (k .number);
       few-edges = few-edges (n .polygons) (leb→le (allLengths (n .polygons)) 4096 (k .points));
     }
 
 -- Reading answers the sheet n exactly if it ends with code 0 and n's numbers.
-pub read-sheet-is : (s : List ℕ) (n : Sheet) → (readSheet s ≡ sheet n) ↔ Reads s n
+pub read-sheet-is : (limit : ℕ) (s : List ℕ) (n : Sheet) → (readSheet limit s ≡ value n) ↔ Reads limit s n
 unfolding readSheet
-read-sheet-is s n = (go (eqb (readingOf s .code) 0) refl (sheetIn numbers) refl, from)
+read-sheet-is limit s n = (go (eqb (readingOf limit s .code) 0) refl (sheetIn numbers) refl, from)
   where
     numbers : List ℤ
-    numbers = map millimetres (readingOf s .numbers)
+    numbers = map millimetres (readingOf limit s .numbers)
 
-    go : (b : Bool) → eqb (readingOf s .code) 0 ≡ b → (o : Option Sheet) → sheetIn numbers ≡ o → cond b (made o) (refused (readingOf s .code) (readingOf s .item)) ≡ sheet n → Reads s n
+    go : (b : Bool) → eqb (readingOf limit s .code) 0 ≡ b → (o : Option Sheet) → sheetIn numbers ≡ o → cond b (made o) (refused (readingOf limit s .code) (readingOf limit s .item)) ≡ value n → Reads limit s n
     go true e none f q = absurd (let z : _≡_ {A = ℕ} 0 1 = cc in omega arith)
-    go true e (some m) f q = let p : m ≡ n = cc in (eqb-true (readingOf s .code) 0 e, sym (form-is numbers n .0 (f ∙ ap some p)))
+    go true e (some m) f q = let p : m ≡ n = cc in (eqb-true (readingOf limit s .code) 0 e, sym (form-is numbers n .0 (f ∙ ap some p)))
     go false e o f q = absurd (let z : _≡_ {A = ℕ} 0 1 = cc in omega arith)
 
-    from : Reads s n → readSheet s ≡ sheet n
-    from r = rw (eq-eqb (readingOf s .code) 0 (r .0), form-is numbers n .1 (sym (r .1))) refl
-
--- A sheet that is read from bytes is held within the limits, and it is what reading answers.
-pub reads-held : (s : List ℕ) → All (λ b. b < 256) s → (n : Sheet) → Reads s n → SheetHeld n (readingOf s .numbers) × (readSheet s ≡ sheet n)
-reads-held s bytes n r = (fits-held n (readingOf s .numbers) (read-written s bytes n r) (r .1), read-sheet-is s n .1 r)
-
--- Bytes that are read with code 0 are read as a sheet, held within the limits.
-pub read-held : (s : List ℕ) → All (λ b. b < 256) s → readingOf s .code ≡ 0 → (n : Sheet) × SheetHeld n (readingOf s .numbers) × (readSheet s ≡ sheet n)
-read-held s bytes code =
-    let r = reads-some s bytes code in
-    let h = reads-held s bytes (r .0) (r .1) in
-    (r .0, h .0, h .1)
+    from : Reads limit s n → readSheet limit s ≡ value n
+    from r = rw (eq-eqb (readingOf limit s .code) 0 (r .0), form-is numbers n .1 (sym (r .1))) refl
 
 -- Another code than 0 is the refusal.
-pub read-refused : (s : List ℕ) → (readingOf s .code ≡ 0 → ⊥) → readSheet s ≡ refused (readingOf s .code) (readingOf s .item)
+pub read-refused : (limit : ℕ) (s : List ℕ) → (readingOf limit s .code ≡ 0 → ⊥) → readSheet limit s ≡ refused (readingOf limit s .code) (readingOf limit s .item)
 unfolding readSheet
-read-refused s h = rw (ne-eqb (readingOf s .code) 0 h) refl
+read-refused limit s h = rw (ne-eqb (readingOf limit s .code) 0 h) refl
+
+-- ---- with a limit that can be held
+module _ (limit : ℕ) (small : limit ≤ offset) where
+  -- A sheet that is read from bytes is held within the limits, and it is what reading answers.
+  pub reads-held : (s : List ℕ) → All (λ b. b < 256) s → (n : Sheet) → Reads limit s n → SheetHeld limit n (readingOf limit s .numbers) × (readSheet limit s ≡ value n)
+  reads-held s bytes n r =
+      (fits-held limit n (readingOf limit s .numbers) small (read-written limit (omega arith) s bytes n r) (r .1), read-sheet-is limit s n .1 r)
+
+  -- Bytes that are read with code 0 are read as a sheet, held within the limits.
+  pub read-held : (s : List ℕ) → All (λ b. b < 256) s → readingOf limit s .code ≡ 0 → (n : Sheet) × SheetHeld limit n (readingOf limit s .numbers) × (readSheet limit s ≡ value n)
+  read-held s bytes code =
+      let r = reads-some limit (omega arith) s bytes code in
+      let h = reads-held s bytes (r .0) (r .1) in
+      (r .0, h .0, h .1)

@@ -3,7 +3,7 @@ use mathlib.Core.Path.{_≡_, refl, _∙_}
 use mathlib.Core.List.{[], _∷_, flatMap}
 use lib.Dec.{T}
 use lib.ListN.{length, replicate}
-use Rattle.sheet_form.specs.Numbers.{Sheet, numbersOf}
+use Rattle.sheet_form.specs.Numbers.{Sheet, members, numbersOf}
 use Rattle.sheet_written.specs.Fits.{origin, sheetFits}
 use Rattle.sheet_written.specs.Normal.{normal, written}
 use Rattle.sheet_written.proofs.Measured.{holders, holdersIn}
@@ -16,7 +16,7 @@ largest = record {
   polygons = replicate 64 (replicate 16 (replicate 4 origin ∷ []));
 }
 
-pub largest-fits : T (sheetFits largest)
+pub largest-fits : T (sheetFits members largest)
 unfolding largest sheetFits
 largest-fits = tt
 
@@ -26,4 +26,4 @@ largest-numbers = refl
 
 pub largest-written : length (written largest) ≡ 158290
 unfolding largest normal holders holdersIn
-largest-written = written-length largest largest-fits ∙ refl
+largest-written = written-length members largest largest-fits ∙ refl

@@ -119,12 +119,12 @@ holdersUnder (holding little kind none) = 0
 holdersUnder (holding little kind (t then ms)) = holdersIn ms
 
 -- A sheet within the limits.
-pub sheet-length : (g : Geometry) → SheetFits g → length (encode g) ≡ 18 + 77 * length (sheetOf g .table) + 9 * holdersUnder g + allBytes (sheetOf g .polygons)
+pub sheet-length : (limit : ℕ) (g : Geometry) → SheetFits limit g → length (encode g) ≡ 18 + 77 * length (sheetOf g .table) + 9 * holdersUnder g + allBytes (sheetOf g .polygons)
 unfolding encode encodeAll sheetOf SheetFits
-sheet-length (ringed little kind rs) h = absurd h
-sheet-length (holding little kind none) h = absurd h
-sheet-length (holding little kind (ringed order shape rs then ms)) h = absurd (h .2)
-sheet-length (holding little kind (holding order shape gs then ms)) h =
+sheet-length limit (ringed little kind rs) h = absurd h
+sheet-length limit (holding little kind none) h = absurd h
+sheet-length limit (holding little kind (ringed order shape rs then ms)) h = absurd (h .2)
+sheet-length limit (holding little kind (holding order shape gs then ms)) h =
     omega (
       arith,
       length-append (header little kind (count (holding order shape gs then ms))) (encodeAll (holding order shape gs then ms)),

@@ -4,7 +4,7 @@ use mathlib.Core.Path.{_≡_, refl, sym, _∙_, ap}
 use mathlib.Core.Bool.{Bool, _&&_}
 use mathlib.Core.Logic.{inl}
 use mathlib.Core.List.{List, [], _∷_, map}
-use Prim.Native.Nat.{ℕ, zero, suc, _-_, _≤_, _<_}
+use Prim.Native.Nat.{ℕ, zero, suc, _+_, _-_, _≤_, _<_}
 use native.Mathlib.Omega.{arith}
 use lib.Dec.{T, leb, leb→le}
 use lib.IntN.{ℤ, natAbs}
@@ -181,29 +181,29 @@ module _ (t : Triangle) (u : T (triangleFits t)) where
 
 -- ---- the sheet
 -- What its test says, one by one.
-pub record Tests (n : Sheet) : Type 0 where
+pub record Tests (limit : ℕ) (n : Sheet) : Type 0 where
   pub table : T (fromTo 2 1024 (length (n .table)))
   pub pieces : T (every triangleFits (n .table))
-  pub number : T (leb (length (n .polygons)) 64)
+  pub number : T (leb (length (n .polygons) + 1) limit)
   pub members : T (every memberFits (n .polygons))
   pub points : T (leb (allLengths (n .polygons)) 4096)
 
-pub tests : (n : Sheet) → T (sheetFits n) → Tests n
+pub tests : (limit : ℕ) (n : Sheet) → T (sheetFits limit n) → Tests limit n
 unfolding sheetFits
-tests n h =
+tests limit n h =
     let table = fromTo 2 1024 (length (n .table)) in
     let pieces = every triangleFits (n .table) in
-    let number = leb (length (n .polygons)) 64 in
+    let number = leb (length (n .polygons) + 1) limit in
     let l = three (table && pieces && number) (every memberFits (n .polygons)) (leb (allLengths (n .polygons)) 4096) h in
     let k = three table pieces number (l .0) in
     record { table = k .0; pieces = k .1; number = k .2; members = l .1; points = l .2 }
 
-table-back : (n : Sheet) → Tests n → each triangleOf (geometries pieceOf (n .table)) ≡ n .table
+table-back : {limit : ℕ} (n : Sheet) → Tests limit n → each triangleOf (geometries pieceOf (n .table)) ≡ n .table
 table-back n h =
     let back = every-all triangleFits (λ t. triangleOf (pieceOf t) ≡ t) triangle-back (n .table) (h .pieces) in
     each-back pieceOf triangleOf (n .table) back
 
-members-back : (n : Sheet) → Tests n → each memberOf (geometries memberTree (n .polygons)) ≡ n .polygons
+members-back : {limit : ℕ} (n : Sheet) → Tests limit n → each memberOf (geometries memberTree (n .polygons)) ≡ n .polygons
 members-back n h =
     let back = every-all memberFits (λ m. memberOf (memberTree m) ≡ m) member-back (n .polygons) (h .members) in
     each-back memberTree memberOf (n .polygons) back
@@ -215,23 +215,23 @@ Limited g = MemberFits g 3 × (length (memberOf g) ≤ 64)
 limited : (m : Member) → T (memberFits m) → Limited (memberTree m)
 limited m t = (member-fits m t, rw (member-back m t) (member-number m t .1))
 
-pub normal-fits : (n : Sheet) → T (sheetFits n) → SheetFits (normal n)
+pub normal-fits : (limit : ℕ) (n : Sheet) → T (sheetFits limit n) → SheetFits limit (normal n)
 unfolding SheetFits normal
-normal-fits n h =
-    let k = tests n h in
+normal-fits limit n h =
+    let k = tests limit n h in
     let table = from-to 2 1024 (length (n .table)) (k .table) in
     let pieces = every-all triangleFits (λ t. PieceFits (pieceOf t)) piece-fits (n .table) (k .pieces) in
     let members = every-all memberFits (λ m. Limited (memberTree m)) limited (n .polygons) (k .members) in (
       refl,
-      rw (count-is memberTree (n .polygons)) (leb→le (length (n .polygons)) 64 (k .number)),
+      rw (count-is memberTree (n .polygons)) (omega (arith, leb→le (length (n .polygons) + 1) limit (k .number))),
       (refl, rw (count-is pieceOf (n .table)) table, each-fits pieceOf PieceFits (n .table) pieces),
       each-fits memberTree Limited (n .polygons) members,
       rw (members-back n k) (leb→le (allLengths (n .polygons)) 4096 (k .points)),
     )
 
-pub normal-sheet : (n : Sheet) → T (sheetFits n) → sheetOf (normal n) ≡ n
+pub normal-sheet : (limit : ℕ) (n : Sheet) → T (sheetFits limit n) → sheetOf (normal n) ≡ n
 unfolding sheetOf normal
-normal-sheet n h =
-    let t = table-back n (tests n h) in
-    let m = members-back n (tests n h) in
+normal-sheet limit n h =
+    let t = table-back n (tests limit n h) in
+    let m = members-back n (tests limit n h) in
     λ i. record { table = t i; polygons = m i }

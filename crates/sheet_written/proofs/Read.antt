@@ -21,6 +21,7 @@ use Rattle.plane.proofs.Points.{samePoint-refl}
 use Rattle.sheet_coordinate.proofs.Meaning.{coordinate-only}
 use Rattle.wkb.specs.Standard.{Pair, Geometry, ringed, holding, Geometries, none, _then_, count}
 use Rattle.sheet_standard.specs.Limits.{numberOf, pointOf, ringOf, memberOf, membersOf, corner, triangleOf, each, sheetOf, FromTo, IsCoordinate, RingFits, PolygonFits, PieceFits, PartFits, Each, MemberFits, MembersFit, allLengths, SheetFits}
+use Rattle.sheet_standard.proofs.Standard.{length-each}
 use Rattle.sheet_written.specs.Fits.{fromTo, inRange, pointFits, triangleFits, origin, closed, ringFits, partFits, memberFits, sheetFits}
 
 -- ---- tests and lists
@@ -136,10 +137,6 @@ piece-fits (ringed little kind rs) h = and-both (pointFits (corner 0 rs) && poin
 piece-fits (holding little kind gs) h = absurd h
 
 -- ---- the sheet
-each-length : {A : Type 0} (f : Geometry → A) (gs : Geometries) → length (each f gs) ≡ count gs
-each-length f none = refl
-each-length f (g then gs) = omega (arith, each-length f gs)
-
 all-each : {A : Type 0} (f : Geometry → A) (P : Geometry → Type 0) (Q : A → Type 0) → ((g : Geometry) → P g → Q (f g)) → (gs : Geometries) → Each P gs → All Q (each f gs)
 all-each f P Q k none h = tt
 all-each f P Q k (g then gs) h = (k g (h .0), all-each f P Q k gs (h .1))
@@ -147,20 +144,20 @@ all-each f P Q k (g then gs) h = (k g (h .0), all-each f P Q k gs (h .1))
 every-each : {A : Type 0} (f : Geometry → A) (p : A → Bool) (P : Geometry → Type 0) → ((g : Geometry) → P g → T (p (f g))) → (gs : Geometries) → Each P gs → T (every p (each f gs))
 every-each f p P k gs h = all-every p (λ a. T (p a)) (λ a t. t) (each f gs) (all-each f P (λ a. T (p a)) k gs h)
 
-pub read-fits : (g : Geometry) → SheetFits g → T (sheetFits (sheetOf g))
+pub read-fits : (limit : ℕ) (g : Geometry) → SheetFits limit g → T (sheetFits limit (sheetOf g))
 unfolding SheetFits sheetOf sheetFits
-read-fits (ringed little kind rs) h = absurd h
-read-fits (holding little kind none) h = absurd h
-read-fits (holding little kind (ringed l k rs then ms)) h = absurd (h .2)
-read-fits (holding little kind (holding l k gs then ms)) h =
+read-fits limit (ringed little kind rs) h = absurd h
+read-fits limit (holding little kind none) h = absurd h
+read-fits limit (holding little kind (ringed l k rs then ms)) h = absurd (h .2)
+read-fits limit (holding little kind (holding l k gs then ms)) h =
     let table = each triangleOf gs in
     let polygons = each memberOf ms in
-    and-both (fromTo 2 1024 (length table) && every triangleFits table && leb (length polygons) 64 && every memberFits polygons) (leb (allLengths polygons) 4096)
-    (and-both (fromTo 2 1024 (length table) && every triangleFits table && leb (length polygons) 64) (every memberFits polygons)
-    (and-both (fromTo 2 1024 (length table) && every triangleFits table) (leb (length polygons) 64)
+    and-both (fromTo 2 1024 (length table) && every triangleFits table && leb (length polygons + 1) limit && every memberFits polygons) (leb (allLengths polygons) 4096)
+    (and-both (fromTo 2 1024 (length table) && every triangleFits table && leb (length polygons + 1) limit) (every memberFits polygons)
+    (and-both (fromTo 2 1024 (length table) && every triangleFits table) (leb (length polygons + 1) limit)
     (and-both (fromTo 2 1024 (length table)) (every triangleFits table)
-    (from-to 2 1024 (length table) (rw (each-length triangleOf gs) (h .2 .1)))
+    (from-to 2 1024 (length table) (rw (length-each triangleOf gs) (h .2 .1)))
     (every-each triangleOf triangleFits PieceFits piece-fits gs (h .2 .2)))
-    (le→leb (length polygons) 64 (rw (each-length memberOf ms) (h .1))))
+    (le→leb (length polygons + 1) limit (omega (arith, length-each memberOf ms, h .1))))
     (every-each memberOf memberFits (λ g. MemberFits g 3 × (length (memberOf g) ≤ 64)) member-fits ms (h .3)))
     (le→leb (allLengths polygons) 4096 (h .4))

@@ -1,4 +1,5 @@
--- The normal bytes of a sheet within the limits are at most 158,290, and a tree within the limits is encoded in at most 185,938.
+-- The normal bytes of a sheet within the limits are at most 157,705 and 9 for each member that it may have, and a tree within the limits is
+-- encoded in at most 185,353 and 9 for each.
 -- The idea: a ring has 4 points at least and a polygon a ring, so for every 4 points the polygons have at most 77 bytes, and there is at most one of
 -- them; whatever holds geometries holds a polygon, and under a member at most three hold one polygon, besides the member itself. Assumes nothing.
 use mathlib.Core.Path.{_≡_, refl, _∙_, ap}
@@ -77,31 +78,31 @@ all-hold (g then ms) h t =
 
 -- ---- what is read
 -- The limits of a sheet, for its bytes.
-record Few (n : Sheet) : Type 0 where
+record Few (limit : ℕ) (n : Sheet) : Type 0 where
   triangles : length (n .table) ≤ 1024
-  polygons : length (n .polygons) ≤ 64
+  polygons : length (n .polygons) + 1 ≤ limit
   points : allLengths (n .polygons) ≤ 4096
   members : All (λ m. T (memberFits m)) (n .polygons)
   bytes : allBytes (n .polygons) ≤ 78848
 
-few : (n : Sheet) → T (sheetFits n) → Few n
-few n h =
-    let k = tests n h in
+few : (limit : ℕ) (n : Sheet) → T (sheetFits limit n) → Few limit n
+few limit n h =
+    let k = tests limit n h in
     let m = every-all memberFits (λ m. T (memberFits m)) (λ m t. t) (n .polygons) (k .members) in
     let p = leb→le (allLengths (n .polygons)) 4096 (k .points) in
     record {
       triangles = from-to 2 1024 (length (n .table)) (k .table) .1;
-      polygons = leb→le (length (n .polygons)) 64 (k .number);
+      polygons = leb→le (length (n .polygons) + 1) limit (k .number);
       points = p;
       members = m;
       bytes = omega (arith, polygons-most (n .polygons) m);
     }
 
-pub read-small : (g : Geometry) → SheetFits g → length (encode g) ≤ 185938
+pub read-small : (limit : ℕ) (g : Geometry) → SheetFits limit g → length (encode g) ≤ 185353 + 9 * limit
 unfolding sheetOf SheetFits
-read-small g h = let f = few (sheetOf g) (read-fits g h) in omega (arith, sheet-length g h, f .triangles, f .bytes, go g h f)
+read-small limit g h = let f = few limit (sheetOf g) (read-fits limit g h) in omega (arith, sheet-length limit g h, f .triangles, f .bytes, go g h f)
   where
-    go : (g : Geometry) → SheetFits g → Few (sheetOf g) → holdersUnder g ≤ 3136
+    go : (g : Geometry) → SheetFits limit g → Few limit (sheetOf g) → holdersUnder g + 1 ≤ 3072 + limit
     go (ringed little kind rs) h f = absurd h
     go (holding little kind none) h f = absurd h
     go (holding little kind (t then ms)) h f = omega (arith, all-hold ms (h .3) (f .members), h .1, f .points)
@@ -119,13 +120,13 @@ members-one ([] ∷ l) = omega (arith, members-one l)
 members-one ((p ∷ []) ∷ l) = omega (arith, members-one l)
 members-one ((p ∷ q ∷ m) ∷ l) = omega (arith, parts-none m, members-one l)
 
-pub written-length : (n : Sheet) → T (sheetFits n) → length (written n) ≡ 18 + 77 * length (n .table) + 9 * holdersUnder (normal n) + allBytes (n .polygons)
-written-length n h =
-    sheet-length (normal n) (normal-fits n h) ∙ ap (λ (m : Sheet). 18 + 77 * length (m .table) + 9 * holdersUnder (normal n) + allBytes (m .polygons)) (normal-sheet n h)
+pub written-length : (limit : ℕ) (n : Sheet) → T (sheetFits limit n) → length (written n) ≡ 18 + 77 * length (n .table) + 9 * holdersUnder (normal n) + allBytes (n .polygons)
+written-length limit n h =
+    sheet-length limit (normal n) (normal-fits limit n h) ∙ ap (λ (m : Sheet). 18 + 77 * length (m .table) + 9 * holdersUnder (normal n) + allBytes (m .polygons)) (normal-sheet limit n h)
 
-pub written-small : (n : Sheet) → T (sheetFits n) → length (written n) ≤ 158290
+pub written-small : (limit : ℕ) (n : Sheet) → T (sheetFits limit n) → length (written n) ≤ 157705 + 9 * limit
 unfolding normal
-written-small n h = let f = few n h in omega (arith, written-length n h, f .triangles, f .bytes, f .polygons, under)
+written-small limit n h = let f = few limit n h in omega (arith, written-length limit n h, f .triangles, f .bytes, f .polygons, under)
   where
     under : holdersUnder (normal n) ≤ length (n .polygons)
     under = members-one (n .polygons)

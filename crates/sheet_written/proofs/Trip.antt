@@ -2,7 +2,7 @@
 -- encoding answers the sheet (reads-the-standard); reading answers one sheet at most, as the numbers form tells the sheet. Assumes nothing.
 use mathlib.Core.Path.{_≡_, refl, sym, _∙_, ap, subst}
 use mathlib.Core.List.{List, map}
-use Prim.Native.Nat.{ℕ, _≤_, _<_}
+use Prim.Native.Nat.{ℕ, _+_, _^_, _≤_, _<_}
 use native.Mathlib.Omega.{arith}
 use lib.Dec.{T}
 use lib.ListN.{length, length-map}
@@ -25,37 +25,39 @@ use Rattle.sheet_written.proofs.Read.{read-fits}
 pub written-bytes : (n : Sheet) → All (λ b. b < 256) (written n)
 written-bytes n = encode-bytes (normal n)
 
--- Reading the written bytes of any sheet within the limits answers the sheet.
-pub round-trip : (n : Sheet) → T (sheetFits n) → Reads (written n) n
-round-trip n h = reads-the-standard (written n) (written-bytes n) n .1 (normal n, normal-fits n h, refl, normal-sheet n h)
-
 -- Written bytes are one of the standard's encodings of the sheet.
-pub written-standard : (n : Sheet) → T (sheetFits n) → (g : Geometry) × SheetFits g × (encode g ≡ written n) × (sheetOf g ≡ n)
-written-standard n h = (normal n, normal-fits n h, refl, normal-sheet n h)
-
--- Whatever is read is within the limits, so that it can be written.
-pub read-written : (s : List ℕ) → All (λ b. b < 256) s → (n : Sheet) → Reads s n → T (sheetFits n)
-read-written s bytes n r =
-    let g = reads-the-standard s bytes n .0 r in
-    subst (λ m. T (sheetFits m)) (g .3) (read-fits (g .0) (g .1))
+pub written-standard : (limit : ℕ) (n : Sheet) → T (sheetFits limit n) → (g : Geometry) × SheetFits limit g × (encode g ≡ written n) × (sheetOf g ≡ n)
+written-standard limit n h = (normal n, normal-fits limit n h, refl, normal-sheet limit n h)
 
 -- Bytes read as one sheet at most.
-pub reads-one : (s : List ℕ) (m n : Sheet) → Reads s m → Reads s n → m ≡ n
-reads-one s m n p q = numbersOf-injective m n (sym (p .1) ∙ q .1)
+pub reads-one : (limit : ℕ) (s : List ℕ) (m n : Sheet) → Reads limit s m → Reads limit s n → m ≡ n
+reads-one limit s m n p q = numbersOf-injective m n (sym (p .1) ∙ q .1)
 
 -- Bytes that read as the same numbers are written as the same bytes.
-pub equal-bytes : (s t : List ℕ) (m n : Sheet) → Reads s m → Reads t n → readingOf s .numbers ≡ readingOf t .numbers → written m ≡ written n
-equal-bytes s t m n p q e = ap written (numbersOf-injective m n (sym (p .1) ∙ ap (map millimetres) e ∙ q .1))
+pub equal-bytes : (limit : ℕ) (s t : List ℕ) (m n : Sheet) → Reads limit s m → Reads limit t n → readingOf limit s .numbers ≡ readingOf limit t .numbers → written m ≡ written n
+equal-bytes limit s t m n p q e = ap written (numbersOf-injective m n (sym (p .1) ∙ ap (map millimetres) e ∙ q .1))
 
--- Writing what was read from written bytes changes nothing.
-pub fixed-point : (n : Sheet) → T (sheetFits n) → (m : Sheet) → Reads (written n) m → written m ≡ written n
-fixed-point n h m r = ap written (reads-one (written n) m n r (round-trip n h))
+-- ---- with a limit that is a u32, as a count is
+module _ (limit : ℕ) (word : limit < 2 ^ 32) where
+  -- Reading the written bytes of any sheet within the limits answers the sheet.
+  pub round-trip : (n : Sheet) → T (sheetFits limit n) → Reads limit (written n) n
+  round-trip n h = reads-the-standard limit word (written n) (written-bytes n) n .1 (written-standard limit n h)
 
--- The numbers form of a sheet within the limits is short.
-pub form-small : (n : Sheet) → T (sheetFits n) → length (numbersOf n) ≤ 16450
-form-small n h =
-    let r = round-trip n h in
-    let e : length (map millimetres (readingOf (written n) .numbers)) ≡ length (numbersOf n) = ap length (r .1) in
-    let m = length-map (readingOf (written n) .numbers) millimetres in
-    let f = numbers-fit (written n) (r .0) in
-    omega arith
+  -- Whatever is read is within the limits, so that it can be written.
+  pub read-written : (s : List ℕ) → All (λ b. b < 256) s → (n : Sheet) → Reads limit s n → T (sheetFits limit n)
+  read-written s bytes n r =
+      let g = reads-the-standard limit word s bytes n .0 r in
+      subst (λ m. T (sheetFits limit m)) (g .3) (read-fits limit (g .0) (g .1))
+
+  -- Writing what was read from written bytes changes nothing.
+  pub fixed-point : (n : Sheet) → T (sheetFits limit n) → (m : Sheet) → Reads limit (written n) m → written m ≡ written n
+  fixed-point n h m r = ap written (reads-one limit (written n) m n r (round-trip n h))
+
+  -- The numbers form of a sheet within the limits is short.
+  pub form-small : (n : Sheet) → T (sheetFits limit n) → length (numbersOf n) ≤ 16385 + limit
+  form-small n h =
+      let r = round-trip n h in
+      let e : length (map millimetres (readingOf limit (written n) .numbers)) ≡ length (numbersOf n) = ap length (r .1) in
+      let m = length-map (readingOf limit (written n) .numbers) millimetres in
+      let f = numbers-fit limit (written n) (r .0) in
+      omega arith

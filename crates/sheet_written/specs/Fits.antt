@@ -1,6 +1,6 @@
 -- The limits and the range of document 01 for a sheet in numbers, and that its rings are closed.
 use mathlib.Core.Bool.{Bool, _&&_}
-use Prim.Native.Nat.{ℕ, _-_}
+use Prim.Native.Nat.{ℕ, _+_, _-_}
 use lib.Dec.{leb}
 use lib.IntN.{ℤ, pos, natAbs}
 use lib.ListN.{length, getD}
@@ -39,8 +39,8 @@ partFits p = fromTo 1 64 (length p) && every ringFits p
 abbrev pub memberFits : Member → Bool
 memberFits m = fromTo 1 64 (length m) && every partFits m
 
--- 2 to 1,024 triangles, at most 64 polygons, and at most 4,096 polygon points in the whole sheet.
-unfoldable pub sheetFits : Sheet → Bool
-sheetFits n =
-    fromTo 2 1024 (length (n .table)) && every triangleFits (n .table) && leb (length (n .polygons)) 64 && every memberFits (n .polygons) &&
+-- 2 to 1,024 triangles, at most so many members, the table and the polygons, and at most 4,096 polygon points in the whole sheet.
+unfoldable pub sheetFits : ℕ → Sheet → Bool
+sheetFits limit n =
+    fromTo 2 1024 (length (n .table)) && every triangleFits (n .table) && leb (length (n .polygons) + 1) limit && every memberFits (n .polygons) &&
     leb (allLengths (n .polygons)) 4096

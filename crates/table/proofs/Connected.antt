@@ -20,13 +20,12 @@ use Rattle.whole.specs.Polynomials.{con, _:+_, _:-_, :-_, _:=_}
 use Rattle.whole.proofs.Ring.{difference, solve}
 use Rattle.whole.proofs.Sums.{sum-flatMap}
 use Rattle.plane.specs.Points.{Point, Edge, Triangle, flip, samePoint, sameEdge, sides}
-use Rattle.plane.specs.Cuts.{allPieces}
+use Rattle.plane.specs.Cuts.{pieces, allPieces}
 use Rattle.plane.specs.Boundaries.{SameBoundary, sidesOf}
-use Rattle.plane.specs.Members.{edges}
 use Rattle.plane.proofs.Boundaries.{edge-sum}
 use Rattle.plane.proofs.Chains.{Chain, leaves, comes, keep, keep-all, keep-none, count-kept, count-dropped, at-count, round}
 use Rattle.plane.proofs.Cuts.{pieces-chain}
-use Rattle.table.specs.Table.{corners, rectangle, frame, RuleA, RuleB, RuleC}
+use Rattle.table.specs.Table.{corners, Frame, frameOf, outlineOf, frameEdges, RuleA, RuleB, RuleC}
 use Rattle.table.specs.Sets.{SetOf, chosen}
 use Rattle.table.specs.Sides.{NoBoundary, Closed}
 use Rattle.table.proofs.Sets.{both, zero-empty, zero-full}
@@ -76,23 +75,21 @@ record Walk (l : List Edge) : Type 0 where
 walk : (o : Point) (l : List Edge) → Chain o o l → ((w : Point) → leaves w l ≤ 1) → Walk l
 walk o l c h = record { once = λ e. omega (arith, at-count (λ e. e .from) e l, h (e .from)); whole = round o l c h }
 
-rectangle-walk : (cs : List Point) (left low right high : ℤ) → left <ℤ right → low <ℤ high → Walk (allPieces cs (edges (rectangle left low right high)))
-rectangle-walk cs left low right high wide tall =
-    walk o (allPieces cs (edges (rectangle left low right high))) (pieces-chain cs o o (edges (rectangle left low right high)) (refl, (refl, (refl, (refl, refl)))))
-    (rectangle-once cs left low right high wide tall)
+outline-walk : (cs : List Point) (f : Frame) → f .left <ℤ f .right → f .low <ℤ f .high → Walk (allPieces cs (outlineOf f))
+outline-walk cs f wide tall = walk o (allPieces cs (outlineOf f)) (pieces-chain cs o o (outlineOf f) (refl, (refl, (refl, (refl, refl))))) (rectangle-once cs f wide tall)
   where
     o : Point
-    o = record { x = left; y = low }
+    o = record { x = f .left; y = f .low }
 
-frame-walk : (table : List Triangle) → RuleA table → Walk (allPieces (corners table) (edges (frame (corners table))))
-unfolding flatMap frame
+frame-walk : (table : List Triangle) → RuleA table → Walk (allPieces (corners table) (frameEdges table))
+unfolding flatMap pieces frameOf
 frame-walk [] area = record { once = λ e. omega arith; whole = λ p h. inl tt }
-frame-walk (t ∷ l) area = rectangle-walk (corners (t ∷ l)) _ _ _ _ (width t (area .0) (corners l)) (height t (area .0) (corners l))
+frame-walk (t ∷ l) area = outline-walk (corners (t ∷ l)) _ (width t (area .0) (corners l)) (height t (area .0) (corners l))
 
 -- ---- a set that is closed under going across sides
-module _ (table : List Triangle) (area : RuleA table) (once : RuleB table) (framed : RuleC table) (s : List Bool) (fits : SetOf table s) (closed : Closed table s) where
+module _ (table : List Triangle) (area : RuleA table) (once : RuleB table) (framed : RuleC (frameEdges table) table) (s : List Bool) (fits : SetOf table s) (closed : Closed table s) where
   abbrev frames : List Edge
-  frames = allPieces (corners table) (edges (frame (corners table)))
+  frames = allPieces (corners table) (frameEdges table)
 
   abbrev # : Edge → ℕ
   # e = count sameEdge e (sidesOf (chosen table s))

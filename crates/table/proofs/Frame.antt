@@ -17,12 +17,11 @@ use Rattle.whole.proofs.Ring.{difference, solve}
 use Rattle.whole.proofs.Sums.{all-map, all-++, all-image, counted, bit-yes, bit-no}
 use Rattle.plane.specs.Points.{Point, Edge, Triangle, _⟶_, samePoint, turn, double}
 use Rattle.plane.specs.Cuts.{pieces, allPieces}
-use Rattle.plane.specs.Members.{edges}
 use Rattle.plane.proofs.Points.{samePoint-eq, samePoint-refl, same-or-other}
 use Rattle.plane.proofs.Chains.{Chain, leaves, leaves-++}
 use Rattle.plane.proofs.Line.{along, share-x, share-y}
 use Rattle.plane.proofs.Cuts.{Piece, pieces-cut}
-use Rattle.table.specs.Table.{least, greatest, rectangle}
+use Rattle.table.specs.Table.{least, greatest, Frame, frameOf, outlineOf}
 
 -- ---- the width and the height of the frame
 least-all : (k : Point → ℤ) (p : Point) (l : List Point) → All (λ q. least k p l ≤ℤ k q) (p ∷ l)
@@ -72,19 +71,24 @@ spread low high a b c n h k = go (order low high)
     go (equal e) = absurd (squeezed (subst (λ z. z ≤ℤ low) e (≤ℤ-refl low)))
     go (more l) = absurd (squeezed (lt-le high low l))
 
--- The frame of a triangle's corners and further points has a width and a height.
+-- The frame of a triangle's corners and further points has a width and a height: a coordinate in which two corners differ has an extent.
 module _ (t : Triangle) (area : pos 0 <ℤ double t) (l : List Point) where
-  pub width : least (λ q. q .x) (t .a) (t .b ∷ t .c ∷ l) <ℤ greatest (λ q. q .x) (t .a) (t .b ∷ t .c ∷ l)
-  width =
-      let h = least-all (λ q. q .x) (t .a) (t .b ∷ t .c ∷ l) in
-      let k = greatest-all (λ q. q .x) (t .a) (t .b ∷ t .c ∷ l) in
-      spread _ _ (t .a .x) (t .b .x) (t .c .x) (upright t area) (h .0, h .1 .0, h .1 .1 .0) (k .0, k .1 .0, k .1 .1 .0)
+  abbrev ps : List Point
+  ps = t .b ∷ t .c ∷ l
 
-  pub height : least (λ q. q .y) (t .a) (t .b ∷ t .c ∷ l) <ℤ greatest (λ q. q .y) (t .a) (t .b ∷ t .c ∷ l)
-  height =
-      let h = least-all (λ q. q .y) (t .a) (t .b ∷ t .c ∷ l) in
-      let k = greatest-all (λ q. q .y) (t .a) (t .b ∷ t .c ∷ l) in
-      spread _ _ (t .a .y) (t .b .y) (t .c .y) (level t area) (h .0, h .1 .0, h .1 .1 .0) (k .0, k .1 .0, k .1 .1 .0)
+  extent : (k : Point → ℤ) → (k (t .a) ≡ k (t .b) → k (t .a) ≡ k (t .c) → ⊥) → least k (t .a) ps <ℤ greatest k (t .a) ps
+  extent k n =
+      let h = least-all k (t .a) ps in
+      let g = greatest-all k (t .a) ps in
+      spread _ _ (k (t .a)) (k (t .b)) (k (t .c)) n (h .0, h .1 .0, h .1 .1 .0) (g .0, g .1 .0, g .1 .1 .0)
+
+  pub width : frameOf (t .a ∷ ps) .left <ℤ frameOf (t .a ∷ ps) .right
+  unfolding frameOf
+  width = extent (λ q. q .x) (upright t area)
+
+  pub height : frameOf (t .a ∷ ps) .low <ℤ frameOf (t .a ∷ ps) .high
+  unfolding frameOf
+  height = extent (λ q. q .y) (level t area)
 
 -- ---- where the pieces of an edge begin
 -- One coordinate of a point that has gone the part m of n of the way from u to v, not the whole.
@@ -167,51 +171,51 @@ once-++ P l m h k i j w = go (decLe 1 (leaves w l))
     go (no d) = omega (arith, leaves-++ w l m, j w)
 
 -- ---- round the rectangle
-module _ (cs : List Point) (left low right high : ℤ) (wide : left <ℤ right) (tall : low <ℤ high) where
+module _ (cs : List Point) (f : Frame) (wide : f .left <ℤ f .right) (tall : f .low <ℤ f .high) where
   abbrev e₁ : Edge
-  e₁ = record { x = left; y = low } ⟶ record { x = right; y = low }
+  e₁ = record { x = f .left; y = f .low } ⟶ record { x = f .right; y = f .low }
 
   abbrev e₂ : Edge
-  e₂ = record { x = right; y = low } ⟶ record { x = right; y = high }
+  e₂ = record { x = f .right; y = f .low } ⟶ record { x = f .right; y = f .high }
 
   abbrev e₃ : Edge
-  e₃ = record { x = right; y = high } ⟶ record { x = left; y = high }
+  e₃ = record { x = f .right; y = f .high } ⟶ record { x = f .left; y = f .high }
 
   abbrev e₄ : Edge
-  e₄ = record { x = left; y = high } ⟶ record { x = left; y = low }
+  e₄ = record { x = f .left; y = f .high } ⟶ record { x = f .left; y = f .low }
 
   -- Where the pieces of each edge begin.
   abbrev On₁ : Point → Type 0
-  On₁ w = (w .y ≡ low) × (w .x <ℤ right)
+  On₁ w = (w .y ≡ f .low) × (w .x <ℤ f .right)
 
   abbrev On₂ : Point → Type 0
-  On₂ w = (w .x ≡ right) × (w .y <ℤ high)
+  On₂ w = (w .x ≡ f .right) × (w .y <ℤ f .high)
 
   abbrev On₃ : Point → Type 0
-  On₃ w = (w .y ≡ high) × (left <ℤ w .x)
+  On₃ w = (w .y ≡ f .high) × (f .left <ℤ w .x)
 
   abbrev On₄ : Point → Type 0
-  On₄ w = (w .x ≡ left) × (low <ℤ w .y)
+  On₄ w = (w .x ≡ f .left) × (f .low <ℤ w .y)
 
   at : (P : Point → Type 0) (e : Edge) → ((p : Edge) → Piece cs e p → P (p .from)) → All (λ p. P (p .from)) (pieces cs e)
-  at P e f = all-map (Piece cs e) (λ p. P (p .from)) f (pieces cs e) (pieces-cut cs e .onwards)
+  at P e k = all-map (Piece cs e) (λ p. P (p .from)) k (pieces cs e) (pieces-cut cs e .onwards)
 
   at₁ : (P : Point → Type 0) → ((w : Point) → On₁ w → P w) → All (λ p. P (p .from)) (pieces cs e₁)
-  at₁ P f = at P e₁ (λ p i. f (p .from) (begins cs e₁ p i .1 .stay refl, begins cs e₁ p i .0 .up wide))
+  at₁ P k = at P e₁ (λ p i. k (p .from) (begins cs e₁ p i .1 .stay refl, begins cs e₁ p i .0 .up wide))
 
   at₂ : (P : Point → Type 0) → ((w : Point) → On₂ w → P w) → All (λ p. P (p .from)) (pieces cs e₂)
-  at₂ P f = at P e₂ (λ p i. f (p .from) (begins cs e₂ p i .0 .stay refl, begins cs e₂ p i .1 .up tall))
+  at₂ P k = at P e₂ (λ p i. k (p .from) (begins cs e₂ p i .0 .stay refl, begins cs e₂ p i .1 .up tall))
 
   at₃ : (P : Point → Type 0) → ((w : Point) → On₃ w → P w) → All (λ p. P (p .from)) (pieces cs e₃)
-  at₃ P f = at P e₃ (λ p i. f (p .from) (begins cs e₃ p i .1 .stay refl, begins cs e₃ p i .0 .down wide))
+  at₃ P k = at P e₃ (λ p i. k (p .from) (begins cs e₃ p i .1 .stay refl, begins cs e₃ p i .0 .down wide))
 
   at₄ : (P : Point → Type 0) → ((w : Point) → On₄ w → P w) → All (λ p. P (p .from)) (pieces cs e₄)
-  at₄ P f = at P e₄ (λ p i. f (p .from) (begins cs e₄ p i .0 .stay refl, begins cs e₄ p i .1 .down tall))
+  at₄ P k = at P e₄ (λ p i. k (p .from) (begins cs e₄ p i .0 .stay refl, begins cs e₄ p i .1 .down tall))
 
   one : (e : Edge) → (w : Point) → leaves w (pieces cs e) ≤ 1
   one e = edge-once cs e (e .from) (e .to) (pieces cs e) (pieces-cut cs e .joined) (pieces-cut cs e .onwards)
 
-  pub rectangle-once : (w : Point) → leaves w (allPieces cs (edges (rectangle left low right high))) ≤ 1
+  pub rectangle-once : (w : Point) → leaves w (allPieces cs (outlineOf f)) ≤ 1
   unfolding flatMap
   rectangle-once =
       once-++ On₁ (pieces cs e₁) _ (at₁ On₁ (λ w h. h))

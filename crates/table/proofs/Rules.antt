@@ -1,9 +1,10 @@
--- The check of a table passes exactly if rules A, B and C hold.
+-- The check of a table passes exactly if rules A, B and C hold, and is refused exactly as the first rule that fails says: the laws of the
+-- chain tell which stage stopped.
 -- The idea for rule B: a side repeats exactly if it stands twice among all sides, since a triangle with an area has three different
 -- sides; so the sides of the earlier triangles and of those to come are counted together. Assumes nothing.
 use mathlib.Core.Path.{_≡_, refl, sym, _∙_, ap, subst}
-use mathlib.Core.Logic.{_↔_, _⊎_, inl, inr}
-use mathlib.Core.Bool.{Bool, true, false, not, cond}
+use mathlib.Core.Logic.{_↔_, Iff·trans, _⊎_, inl, inr, ⊎-elim}
+use mathlib.Core.Bool.{Bool, true, false, not}
 use mathlib.Core.List.{List, [], _∷_, flatMap}
 use mathlib.Core.Option.{Option, none, some, Option·none-ne-some, Option·some-injective}
 use Prim.Native.Nat.{ℕ, suc, _+_, _≤_}
@@ -18,12 +19,12 @@ use Rattle.whole.specs.Polynomials.{con, _:-_, _:*_, _:=_}
 use Rattle.whole.proofs.Ring.{solve}
 use Rattle.whole.proofs.Sums.{count-++, counted, not-counted, all-counted, all-map, none-any}
 use Rattle.plane.specs.Points.{Point, Edge, Triangle, _⟶_, sides, sameEdge, turn, double}
-use Rattle.plane.specs.Cuts.{allPieces}
-use Rattle.plane.specs.Boundaries.{agree, sidesOf}
-use Rattle.plane.specs.Members.{edges}
+use Rattle.plane.specs.Boundaries.{SameBoundary, agree, sidesOf}
 use Rattle.plane.proofs.Points.{sameEdge-eq, sameEdge-refl}
 use Rattle.plane.proofs.Boundaries.{agree-is}
-use Rattle.table.specs.Table.{corners, frame, RuleA, RuleB, RuleC, passed, refused, firstFault, flat, repeats, refuse, checkTable}
+use Rattle.lent.specs.Stages.{Answer, value, refused, needing, faultless}
+use Rattle.lent.proofs.Stages.{chain-value, chain-refused, faultless-value, faultless-refused, needing-value, needing-refused}
+use Rattle.table.specs.Table.{RuleA, RuleB, RuleC, firstFault, flat, repeats, checkTable}
 
 -- No member fails the test that also sees those before it.
 abbrev pub NoFault : {A : Type 0} → (List A → A → Bool) → List A → List A → Type 0
@@ -135,72 +136,77 @@ unfolding flatMap
 rule-B table area = (λ h e. omega (arith, once-all [] table area h (λ d. omega arith) e), λ h. all-once [] table (λ e. omega (arith, h e)))
 
 -- ---- all three
-pub passes : (table : List Triangle) → (checkTable table ≡ passed) ↔ (RuleA table × RuleB table × RuleC table)
-unfolding checkTable
-passes table = (
-  λ e. to (firstFault flat [] table) refl (firstFault repeats [] table) refl _ refl e,
-  λ h. from h,
-)
-  where
-    rest : Bool
-    rest = agree (sidesOf table) (allPieces (corners table) (edges (frame (corners table))))
-
-    to : (a : Option ℕ) → firstFault flat [] table ≡ a → (b : Option ℕ) → firstFault repeats [] table ≡ b → (c : Bool) → rest ≡ c
-        → refuse 10 a (refuse 11 b (cond c passed (refused 12 0))) ≡ passed → RuleA table × RuleB table × RuleC table
-    to none p none q true r e =
-        let a = rule-A [] table .0 (no-fault flat [] table .0 p) in
-        (a, rule-B table a .0 (no-fault repeats [] table .0 q), agree-is _ _ .0 (subst T (sym r) tt))
-    to none p none q false r e = absurd (let z : _≡_ {A = ℕ} 0 1 = cc in omega arith)
-    to none p (some k) q c r e = absurd (let z : _≡_ {A = ℕ} 0 1 = cc in omega arith)
-    to (some k) p b q c r e = absurd (let z : _≡_ {A = ℕ} 0 1 = cc in omega arith)
-
-    from : RuleA table × RuleB table × RuleC table → refuse 10 (firstFault flat [] table) (refuse 11 (firstFault repeats [] table) (cond rest passed (refused 12 0))) ≡ passed
-    from h = rw (no-fault flat [] table .1 (rule-A [] table .1 (h .0)), no-fault repeats [] table .1 (rule-B table (h .0) .1 (h .1))) (go rest (agree-is _ _ .1 (h .2)))
-      where
-        go : (c : Bool) → T c → cond c passed (refused 12 0) ≡ passed
-        go true t = refl
-        go false t = absurd t
-
--- ---- the refusals, each exactly if its rule is the first that fails
 -- The first member that fails a test, by its number: it does, and none before it does.
 abbrev pub FirstFault : {A : Type 0} → (List A → A → Bool) → List A → List A → ℕ → Type 0
 FirstFault bad before [] n = ⊥
 FirstFault bad before (a ∷ l) n = (T (bad before a) × (n ≡ suc (length before))) ⊎ ((T (bad before a) → ⊥) × FirstFault bad (a ∷ before) l n)
 
-first-fault : {A : Type 0} (bad : List A → A → Bool) (before l : List A) (n : ℕ) → firstFault bad before l ≡ some n → FirstFault bad before l n
-first-fault bad before [] n e = absurd (Option·none-ne-some n e)
-first-fault bad before (a ∷ l) n e = go (bad before a) (first-fault bad (a ∷ before) l n) e
+pub first-fault : {A : Type 0} (bad : List A → A → Bool) (before l : List A) (n : ℕ) → (firstFault bad before l ≡ some n) ↔ FirstFault bad before l n
+first-fault bad before [] n = (λ e. Option·none-ne-some n e, λ f. absurd f)
+first-fault bad before (a ∷ l) n = go (bad before a) (first-fault bad (a ∷ before) l n)
   where
-    go : (b : Bool) → (firstFault bad (a ∷ before) l ≡ some n → FirstFault bad (a ∷ before) l n)
-        → _≡_ {A = Option ℕ} (elim b [ true ↦ some (suc (length before)) | false ↦ firstFault bad (a ∷ before) l ]) (some n)
-        → (T b × (n ≡ suc (length before))) ⊎ ((T b → ⊥) × FirstFault bad (a ∷ before) l n)
-    go true r e = inl (tt, sym (Option·some-injective (suc (length before)) n e))
-    go false r e = inr (λ t. t, r e)
+    go : (b : Bool) → (firstFault bad (a ∷ before) l ≡ some n) ↔ FirstFault bad (a ∷ before) l n
+        → (_≡_ {A = Option ℕ} (elim b [ true ↦ some (suc (length before)) | false ↦ firstFault bad (a ∷ before) l ]) (some n)) ↔ ((T b × (n ≡ suc (length before))) ⊎ ((T b → ⊥) × FirstFault bad (a ∷ before) l n))
+    go true r = (λ e. inl (tt, sym (Option·some-injective (suc (length before)) n e)), ⊎-elim (λ h. ap some (sym (h .1))) (λ h. absurd (h .0 tt)))
+    go false r = (λ e. inr (λ t. t, r .0 e), ⊎-elim (λ h. absurd (h .0)) (λ h. r .1 (h .1)))
 
 -- 10 with the first triangle that has no area above 0; 11, where all have, with the first that has a side of an earlier one; 12 where these two
 -- rules hold and rule C fails.
-abbrev pub Refusal : List Triangle → ℕ → ℕ → Type 0
-Refusal table number item =
-    ((number ≡ 10) × FirstFault flat [] table item) ⊎ ((number ≡ 11) × RuleA table × FirstFault repeats [] table item) ⊎ ((number ≡ 12) × (item ≡ 0) × RuleA table × RuleB table × (RuleC table → ⊥))
+abbrev pub Refusal : List Edge → List Triangle → ℕ → ℕ → Type 0
+Refusal outline table code item =
+    ((code ≡ 10) × FirstFault flat [] table item)
+    ⊎ ((code ≡ 11) × RuleA table × FirstFault repeats [] table item)
+    ⊎ ((code ≡ 12) × (item ≡ 0) × RuleA table × RuleB table × (RuleC outline table → ⊥))
 
-pub refused-as : (table : List Triangle) (number item : ℕ) → checkTable table ≡ refused number item → Refusal table number item
-unfolding checkTable
-refused-as table number item = go (firstFault flat [] table) refl (firstFault repeats [] table) refl (agree (sidesOf table) (allPieces (corners table) (edges (frame (corners table))))) refl
-  where
-    go : (a : Option ℕ) → firstFault flat [] table ≡ a → (b : Option ℕ) → firstFault repeats [] table ≡ b
-        → (c : Bool) → agree (sidesOf table) (allPieces (corners table) (edges (frame (corners table)))) ≡ c
-        → refuse 10 a (refuse 11 b (cond c passed (refused 12 0))) ≡ refused number item → Refusal table number item
-    go (some k) p b q c r e =
-        let n : number ≡ 10 = cc e in
-        let i : k ≡ item = cc e in
-        inl (n, subst (FirstFault flat [] table) i (first-fault flat [] table k p))
-    go none p (some k) q c r e =
-        let n : number ≡ 11 = cc e in
-        let i : k ≡ item = cc e in
-        inr (inl (n, rule-A [] table .0 (no-fault flat [] table .0 p), subst (FirstFault repeats [] table) i (first-fault repeats [] table k q)))
-    go none p none q true r e = absurd (let z : _≡_ {A = ℕ} 0 1 = cc e in omega arith)
-    go none p none q false r e =
-        let n : number ≡ 12 = cc e in
-        let i : item ≡ 0 = cc e in
-        let a = rule-A [] table .0 (no-fault flat [] table .0 p) in
-        inr (inr (n, i, a, rule-B table a .0 (no-fault repeats [] table .0 q), λ h. subst T r (agree-is _ _ .1 h)))
+-- A comparison as a stage.
+agrees : (l m : List Edge) (code item : ℕ) → (needing (agree l m) code item ≡ value tt) ↔ SameBoundary l m
+agrees l m code item = Iff·trans (needing-value (agree l m) code item) (agree-is l m)
+
+differs : (l m : List Edge) (number k code item : ℕ) → (needing (agree l m) number k ≡ refused code item) ↔ ((SameBoundary l m → ⊥) × (code ≡ number) × (item ≡ k))
+differs l m number k code item = Iff·trans (needing-refused (agree l m) number k code item) (λ h. (λ b. h .0 (agree-is l m .1 b), h .1, h .2), λ h. (λ t. h .0 (agree-is l m .0 t), h .1, h .2))
+
+module _ (outline : List Edge) (table : List Triangle) where
+  -- The first two stages, and what they pass for.
+  abbrev first : Answer (Unit {0})
+  first = faultless 10 (firstFault flat [] table)
+
+  abbrev second : Answer (Unit {0})
+  second = faultless 11 (firstFault repeats [] table)
+
+  areas : (first ≡ value tt) ↔ RuleA table
+  areas = Iff·trans (faultless-value 10 _) (Iff·trans (no-fault flat [] table) (rule-A [] table))
+
+  once : RuleA table → (second ≡ value tt) ↔ RuleB table
+  once a = Iff·trans (faultless-value 11 _) (Iff·trans (no-fault repeats [] table) (rule-B table a))
+
+  pub passes : (checkTable outline table ≡ value tt) ↔ (RuleA table × RuleB table × RuleC outline table)
+  unfolding checkTable
+  passes = (
+    λ e.
+        let (u, p, f) = chain-value _ _ tt .0 e in
+        let (w, q, g) = chain-value _ _ tt .0 f in
+        let a = areas .0 p in
+        (a, once a .0 q, agrees _ _ 12 0 .0 g),
+    λ (a, b, c). chain-value _ _ tt .1 (tt, areas .1 a, chain-value _ _ tt .1 (tt, once a .1 b, agrees _ _ 12 0 .1 c)),
+  )
+
+  -- Each refusal is given exactly if its rule is the first that fails.
+  pub refused-as : (code item : ℕ) → (checkTable outline table ≡ refused code item) ↔ Refusal outline table code item
+  unfolding checkTable
+  refused-as code item = (
+    λ e.
+        elim (chain-refused first _ code item .0 e) [
+          | inl p ↦ let h = faultless-refused 10 _ code item .0 p in inl (h .0, first-fault flat [] table item .0 (h .1))
+          | inr (u, p, f) ↦
+              let a = areas .0 p in
+              inr (elim (chain-refused second _ code item .0 f) [
+                | inl q ↦ let h = faultless-refused 11 _ code item .0 q in inl (h .0, a, first-fault repeats [] table item .0 (h .1))
+                | inr (w, q, g) ↦ let h = differs _ _ 12 0 code item .0 g in inr (h .1, h .2, a, once a .0 q, h .0)
+              ])
+        ],
+    λ r. elim r [
+      | inl (n, f) ↦ chain-refused first _ code item .1 (inl (faultless-refused 10 _ code item .1 (n, first-fault flat [] table item .1 f)))
+      | inr (inl (n, a, f)) ↦ chain-refused first _ code item .1 (inr (tt, areas .1 a, chain-refused second _ code item .1 (inl (faultless-refused 11 _ code item .1 (n, first-fault repeats [] table item .1 f)))))
+      | inr (inr (n, i, a, b, c)) ↦ chain-refused first _ code item .1 (inr (tt, areas .1 a, chain-refused second _ code item .1 (inr (tt, once a .1 b, differs _ _ 12 0 code item .1 (c, n, i)))))
+    ],
+  )

@@ -1,5 +1,5 @@
 -- The triangle table: corners, frame, and the three table rules.
-use mathlib.Core.Bool.{Bool, true, false, not, cond}
+use mathlib.Core.Bool.{Bool, true, false, not}
 use mathlib.Core.List.{List, [], _∷_, flatMap}
 use mathlib.Core.Option.{Option, none, some}
 use Prim.Native.Nat.{ℕ, suc, _≤_}
@@ -11,7 +11,8 @@ use Rattle.whole.specs.Sums.{All, any, count}
 use Rattle.plane.specs.Points.{Point, Edge, Triangle, sides, sameEdge, double}
 use Rattle.plane.specs.Cuts.{allPieces}
 use Rattle.plane.specs.Boundaries.{SameBoundary, agree, sidesOf}
-use Rattle.plane.specs.Members.{edges}
+use Rattle.plane.specs.Members.{Ring, edges}
+use Rattle.lent.specs.Stages.{Answer, andThen, needing, faultless}
 
 -- The corners of all triangles of the table.
 abbrev pub corners : List Triangle → List Point
@@ -26,15 +27,29 @@ unfoldable pub greatest : (Point → ℤ) → Point → List Point → ℤ
 greatest k p [] = k p
 greatest k p (q ∷ l) = greater (k p) (greatest k q l)
 
--- The upright rectangle from (left, low) to (right, high), anticlockwise, the closing point included.
-abbrev pub rectangle : (left low right high : ℤ) → List Point
-rectangle left low right high =
-    record { x = left; y = low } ∷ record { x = right; y = low } ∷ record { x = right; y = high } ∷ record { x = left; y = high } ∷ record { x = left; y = low } ∷ []
+-- The frame is the smallest upright rectangle that holds all the points, by its four bounds. (Of no points it is a rectangle of no extent.)
+pub record Frame : Type 0 where
+  pub left : ℤ
+  pub low : ℤ
+  pub right : ℤ
+  pub high : ℤ
 
--- The frame is the smallest upright rectangle that holds all the points. (No points have none.)
-unfoldable pub frame : List Point → List Point
-frame [] = []
-frame (p ∷ l) = rectangle (least (λ q. q .x) p l) (least (λ q. q .y) p l) (greatest (λ q. q .x) p l) (greatest (λ q. q .y) p l)
+unfoldable pub frameOf : List Point → Frame
+frameOf [] = record { left = pos 0; low = pos 0; right = pos 0; high = pos 0 }
+frameOf (p ∷ l) = record { left = least (λ q. q .x) p l; low = least (λ q. q .y) p l; right = greatest (λ q. q .x) p l; high = greatest (λ q. q .y) p l }
+
+-- The frame as a ring, from (left, low) anticlockwise, the closing point included.
+abbrev pub rectangle : Frame → Ring
+rectangle f =
+    record { x = f .left; y = f .low } ∷ record { x = f .right; y = f .low } ∷ record { x = f .right; y = f .high } ∷ record { x = f .left; y = f .high } ∷ record { x = f .left; y = f .low } ∷ []
+
+-- The frame's four edges, anticlockwise.
+abbrev pub outlineOf : Frame → List Edge
+outlineOf f = edges (rectangle f)
+
+-- The edges of the frame of the table's corners.
+abbrev pub frameEdges : List Triangle → List Edge
+frameEdges table = outlineOf (frameOf (corners table))
 
 -- The edges l, cut at the table's corners, have the same boundary as the triangles s.
 abbrev pub Bounds : List Triangle → List Edge → List Triangle → Type 0
@@ -49,14 +64,9 @@ RuleA = All (λ t. pos 0 <ℤ double t)
 abbrev pub RuleB : List Triangle → Type 0
 RuleB table = (e : Edge) → count sameEdge e (sidesOf table) ≤ 1
 
--- Rule C. The set of all triangles has the anticlockwise frame as its boundary.
-abbrev pub RuleC : List Triangle → Type 0
-RuleC table = Bounds table (edges (frame (corners table))) table
-
--- What a check of the sheet comes to: it passes, or is refused with a number and an item.
-pub data Checked : Type 0 where
-  passed : Checked
-  refused : (code item : ℕ) → Checked
+-- Rule C. The set of all triangles has the outline as its boundary: document 01's is the anticlockwise frame.
+abbrev pub RuleC : List Edge → List Triangle → Type 0
+RuleC outline table = Bounds table outline table
 
 -- The number, counted from 1, of the first member that fails a test. The test also sees the members before it, the nearest first.
 abbrev pub firstFault : {A : Type 0} → (List A → A → Bool) → List A → List A → Option ℕ
@@ -71,14 +81,9 @@ flat before t = not (ltZ (pos 0) (double t))
 abbrev pub repeats : List Triangle → Triangle → Bool
 repeats before t = any (λ e. any (sameEdge e) (sidesOf before)) (sides t)
 
--- A fault found is refused with that code and its triangle as the item; where there is none the check goes on.
-abbrev pub refuse : ℕ → Option ℕ → Checked → Checked
-refuse code none next = next
-refuse code (some item) next = refused code item
-
 -- The table rules in their order: 10 over all triangles, then 11, then 12.
-unfoldable pub checkTable : List Triangle → Checked
-checkTable table =
-    refuse 10 (firstFault flat [] table)
-    (refuse 11 (firstFault repeats [] table)
-    (cond (agree (sidesOf table) (allPieces (corners table) (edges (frame (corners table))))) passed (refused 12 0)))
+unfoldable pub checkTable : List Edge → List Triangle → Answer (Unit {0})
+checkTable outline table =
+    andThen (faultless 10 (firstFault flat [] table)) (λ _.
+    andThen (faultless 11 (firstFault repeats [] table)) (λ _.
+    needing (agree (sidesOf table) (allPieces (corners table) outline)) 12 0))

@@ -1,65 +1,74 @@
--- Rule C by the comparison that judges a member. The idea: the set with every mark is the whole table, so that the counts are its shares
--- exactly if the table's sides have the boundary of the frame's pieces. Assumes nothing.
-use mathlib.Core.Path.{_≡_, refl, sym, _∙_, ap, subst}
-use mathlib.Core.Bool.{Bool, true, false}
+-- The frame found from the last corner to the first, and its four edges in numbers. The idea: one corner more widens the frame, by the
+-- definition of the least and the greatest. Assumes nothing.
+use mathlib.Core.Path.{_≡_, refl, sym, _∙_, ap, ap₂, subst}
 use mathlib.Core.List.{List, [], _∷_}
-use Prim.Native.Nat.{ℕ}
+use Prim.Native.Nat.{ℕ, suc, _*_, _≤_, _<_}
 use native.Mathlib.Omega.{arith}
-use lib.Dec.{T}
-use lib.ListN.{length}
-use Rattle.whole.specs.Tests.{Told}
+use lib.ListN.{length, getD, drop, set, drop-of-length-le}
+use lib.Seq.{drop-cons}
 use Rattle.whole.specs.Sums.{All}
-use Rattle.plane.specs.Points.{Edge}
-use Rattle.plane.specs.Cuts.{allPieces}
-use Rattle.plane.specs.Boundaries.{SameBoundary, agree, sidesOf}
-use Rattle.plane.specs.Keys.{Key, pairs}
-use Rattle.plane.proofs.Boundaries.{agree-is}
-use Rattle.table.specs.Table.{corners}
-use Rattle.table.specs.Sets.{SetOf, chosen}
-use Rattle.table.specs.Sides.{trianglesOf, Shares}
-use Rattle.table_count.specs.Counting.{piecesOf, Edged, Tallied, Settled, Stray}
-use Rattle.table_count.specs.Indexed.{Indexed}
-use Rattle.table_labels.proofs.Compared.{pieces-are, stray-refuses, shares-from, shares-to}
+use Rattle.plane.specs.declared.Corner.{Corner}
+use Rattle.plane.specs.Corners.{offset}
+use Rattle.plane.specs.Keys.{point, keyOf, cornerOf, pointAt, pointsAt, Key, pairs}
+use Rattle.table.specs.Table.{least, greatest, Frame, frameOf, outlineOf, frameEdges}
+use Rattle.table.specs.Sides.{trianglesOf}
+use Rattle.table.proofs.Bounds.{key-of, corners-points}
+use Rattle.table_count.specs.Counting.{Edged}
+use Rattle.table_check.specs.declared.Frame.{Frame as FrameCode}
+use Rattle.table_check.specs.Framing.{FrameInRange, frameHeld, wider}
 
--- With every mark all members are chosen.
-pub every-chosen : {A : Type 0} (l : List A) (s : List Bool) → length s ≡ length l → All (λ b. b ≡ true) s → chosen l s ≡ l
-every-chosen [] s e h = refl
-every-chosen (a ∷ l) [] e h = absurd (omega arith)
-every-chosen (a ∷ l) (true ∷ s) e h = ap (λ z. a ∷ z) (every-chosen l s (omega arith) (h .1))
-every-chosen (a ∷ l) (false ∷ s) e h = absurd (subst T (sym (h .0)) tt)
+-- ---- the frame of the corners from a place on
+-- Of no corners it is 0 all round; at the last corner it is that corner's coordinates; one corner more widens it.
+pub frame-none : (keys : List ℕ) → length keys ≡ 0 → frameHeld (record { left = offset; low = offset; right = offset; high = offset }) ≡ frameOf (pointsAt keys)
+unfolding frameOf
+frame-none [] h = refl
+frame-none (k ∷ keys) h = absurd (omega arith)
 
--- An answer that tells whether two lists have the same boundary is the test's.
-pub agree-told : (l m : List Edge) (r : Bool) → Told r (SameBoundary l m) (SameBoundary l m → ⊥) → r ≡ agree l m
-agree-told l m r h = go r (agree l m) h (agree-is l m .0) (agree-is l m .1)
-  where
-    go : (r b : Bool) → Told r (SameBoundary l m) (SameBoundary l m → ⊥) → (T b → SameBoundary l m) → (SameBoundary l m → T b) → r ≡ b
-    go true true h f g = refl
-    go true false h f g = absurd (g h)
-    go false true h f g = absurd (h (f tt))
-    go false false h f g = refl
+module _ (keys : List ℕ) where
+  pub frame-last : (i : ℕ) → length keys ≡ suc i → (c : Corner) → c ≡ cornerOf (getD keys i 0) → frameHeld (record { left = c .x; low = c .y; right = c .x; high = c .y }) ≡ frameOf (pointsAt (drop i keys))
+  unfolding least greatest frameOf pointAt
+  frame-last i h c e =
+      let k : length keys ≤ suc i = omega arith in
+      ap (λ c. frameHeld (record { left = c .x; low = c .y; right = c .x; high = c .y })) e ∙ sym (ap (λ l. frameOf (pointsAt l)) (drop-cons keys i 0 (omega arith) ∙ ap (λ l. getD keys i 0 ∷ l) (drop-of-length-le keys k)))
 
--- Four edges.
-pub four-edged : (from to : List ℕ) → All Key from → All Key to → length from ≡ 4 → length to ≡ 4 → Edged from to
-four-edged from to f t m n = record { from-keys = f; to-keys = t; as-many = n ∙ sym m; few = omega arith }
+  pub frame-more : (i j : ℕ) → suc j ≡ i → i < length keys → (c : Corner) → c ≡ cornerOf (getD keys j 0) → {f : Frame} → f ≡ frameOf (pointsAt (drop i keys)) → wider (point c) f ≡ frameOf (pointsAt (drop j keys))
+  unfolding least greatest frameOf pointAt
+  frame-more i j e h c q r = ap₂ (λ c f. wider (point c) f) q r ∙ sym (ap (λ l. frameOf (pointsAt l)) (drop-cons keys j 0 (omega arith)) ∙ rw (← e, drop-cons keys (suc j) 0 (omega arith)) refl)
 
-module _ (keys ordered index opposite : List ℕ) (indexed : Indexed keys ordered index opposite) (labels : List Bool) (fits : SetOf (trianglesOf keys) labels) (full : All (λ b. b ≡ true) labels)
-    (from to : List ℕ) (l : List Edge) (is : pairs from to ≡ l) where
-  -- The marked set has the boundary of the pieces as the code finds them exactly if the table has that of the pieces as they are defined.
-  compared : SameBoundary (sidesOf (chosen (trianglesOf keys) labels)) (piecesOf ordered from to) ≡ SameBoundary (sidesOf (trianglesOf keys)) (allPieces (corners (trianglesOf keys)) l)
-  compared = ap (λ s. SameBoundary (sidesOf s) (piecesOf ordered from to)) (every-chosen (trianglesOf keys) labels fits full)
-      ∙ ap (SameBoundary (sidesOf (trianglesOf keys))) (pieces-are keys ordered index opposite indexed from to l is)
+-- ---- the edges of the frame
+-- Four places, all stored to.
+pub stored-four : (l : List ℕ) → length l ≡ 4 → {a b c d a′ b′ c′ d′ : ℕ} → a ≡ a′ → b ≡ b′ → c ≡ c′ → d ≡ d′
+    → set (set (set (set l 0 a) 1 b) 2 c) 3 d ≡ a′ ∷ b′ ∷ c′ ∷ d′ ∷ []
+stored-four [] h e f g i = absurd (omega arith)
+stored-four (p ∷ []) h e f g i = absurd (omega arith)
+stored-four (p ∷ q ∷ []) h e f g i = absurd (omega arith)
+stored-four (p ∷ q ∷ r ∷ []) h e f g i = absurd (omega arith)
+stored-four (p ∷ q ∷ r ∷ s ∷ []) h e f g i = rw (e, f, g, i) refl
+stored-four (p ∷ q ∷ r ∷ s ∷ t ∷ l) h e f g i = absurd (omega arith)
 
-  -- A stray piece: the boundaries differ.
-  pub stray-differs : Stray (sidesOf (trianglesOf keys)) (piecesOf ordered from to) → false ≡ agree (sidesOf (trianglesOf keys)) (allPieces (corners (trianglesOf keys)) l)
-  stray-differs stray = agree-told (sidesOf (trianglesOf keys)) (allPieces (corners (trianglesOf keys)) l) false
-      (λ h. stray-refuses keys ordered index opposite indexed (piecesOf ordered from to) labels fits stray (subst (λ T. T) (sym compared) h))
+-- The number of the corner of two bounds.
+abbrev pub cornerKey : ℕ → ℕ → ℕ
+cornerKey x y = keyOf (record { x = x; y = y })
 
-  -- Else the counts tell whether they are the same.
-  pub shares-tell : (counts : List ℕ) → Tallied (sidesOf (trianglesOf keys)) (piecesOf ordered from to) counts → Settled (sidesOf (trianglesOf keys)) (piecesOf ordered from to) (piecesOf ordered from to)
-      → (r : Bool) → Told r (Shares opposite counts labels) (Shares opposite counts labels → ⊥) → r ≡ agree (sidesOf (trianglesOf keys)) (allPieces (corners (trianglesOf keys)) l)
-  shares-tell counts tallied settled r h = agree-told (sidesOf (trianglesOf keys)) (allPieces (corners (trianglesOf keys)) l) r (go r h)
-    where
-      go : (r : Bool) → Told r (Shares opposite counts labels) (Shares opposite counts labels → ⊥)
-          → Told r (SameBoundary (sidesOf (trianglesOf keys)) (allPieces (corners (trianglesOf keys)) l)) (SameBoundary (sidesOf (trianglesOf keys)) (allPieces (corners (trianglesOf keys)) l) → ⊥)
-      go true h = subst (λ T. T) compared (shares-to keys ordered index opposite indexed (piecesOf ordered from to) labels fits counts tallied settled h)
-      go false h = λ b. h (shares-from keys ordered index opposite indexed (piecesOf ordered from to) labels fits counts tallied (subst (λ T. T) (sym compared) b))
+-- Four corners round the frame, each to the next, are its edges.
+pub round : (f : FrameCode) → FrameInRange f → (from to : List ℕ)
+    → from ≡ cornerKey (f .left) (f .low) ∷ cornerKey (f .right) (f .low) ∷ cornerKey (f .right) (f .high) ∷ cornerKey (f .left) (f .high) ∷ []
+    → to ≡ cornerKey (f .right) (f .low) ∷ cornerKey (f .right) (f .high) ∷ cornerKey (f .left) (f .high) ∷ cornerKey (f .left) (f .low) ∷ []
+    → (pairs from to ≡ outlineOf (frameHeld f)) × Edged from to
+round f h from to p q =
+    let a = key-of (record { x = f .left; y = f .low }) (record { x = h .left; y = h .low }) in
+    let b = key-of (record { x = f .right; y = f .low }) (record { x = h .right; y = h .low }) in
+    let c = key-of (record { x = f .right; y = f .high }) (record { x = h .right; y = h .high }) in
+    let d = key-of (record { x = f .left; y = f .high }) (record { x = h .left; y = h .high }) in (
+      ap₂ pairs p q ∙ rw (a .1, b .1, c .1, d .1) refl,
+      record {
+        from-keys = subst (All Key) (sym p) (a .0, (b .0, (c .0, (d .0, tt))));
+        to-keys = subst (All Key) (sym q) (b .0, (c .0, (d .0, (a .0, tt))));
+        as-many = ap length q ∙ sym (ap length p);
+        few = omega (arith, ap length p);
+      },
+    )
+
+-- For the corners of n triangles the edges are those of the table's frame.
+pub frame-edges : (keys : List ℕ) (n : ℕ) → length keys ≡ 3 * n → (f : FrameCode) → frameHeld f ≡ frameOf (pointsAt keys) → outlineOf (frameHeld f) ≡ frameEdges (trianglesOf keys)
+frame-edges keys n h f e = ap outlineOf (e ∙ ap frameOf (sym (corners-points n keys h)))

@@ -1,2 +1,3 @@
--- The table rules in their order.
+-- The frame, and the table rules in their order, as the code answers them.
+pub mod Framing
 pub mod Checking

@@ -1,6 +1,6 @@
 -- After the end or a refusal a step answers the same again, since the next place is the same place; and a place past the bytes answers 1
 -- with the member that it names.
--- The idea: both are read off the definition, test by test. Assumes nothing.
+-- The idea: both are read off the definition, case by case. Assumes nothing.
 use mathlib.Core.Path.{_≡_, refl, _∙_, ap, subst}
 use mathlib.Core.Bool.{Bool, true, false, not, cond, _&&_}
 use mathlib.Core.List.{List}
@@ -8,13 +8,12 @@ use Prim.Native.Nat.{ℕ, _+_, _<_}
 use native.Mathlib.Omega.{arith}
 use borrow.Author.Tests.{lt-leb, le-ltb, ne-eqb}
 use lib.Dec.{ltb, eqb}
-use lib.ListN.{length, getD}
-use Rattle.whole.proofs.Tests.{by-cond}
+use lib.ListN.{length}
 use Rattle.wkb.specs.declared.Cursor.{Cursor}
 use Rattle.wkb.specs.declared.Step.{Step}
 use Rattle.wkb.specs.declared.Step.the-variants.{Geometry, Ring, Point, End, Refused}
-use Rattle.lent_little.specs.Ordered.{remains, wordAt}
-use Rattle.wkb.specs.Steps.{slotOf, complete, kindFault, countFits, refusal, ringFits, geometryAt, ringAt, pointAt, endAt, stepAt}
+use Rattle.wkb.specs.Steps.{complete, refusal, geometryAt, ringAt, pointAt, endAt, stepAt}
+use Rattle.wkb.proofs.Cases.{by-case}
 
 -- An end or a refusal hands back the place it was given.
 abbrev pub Stays : Cursor → Step → Type 0
@@ -25,17 +24,13 @@ Stays c (End d) = d ≡ c
 Stays c (Refused code item d) = d ≡ c
 
 pub step-stays : (s : List ℕ) (c : Cursor) → Stays c (stepAt s c)
-unfolding stepAt geometryAt ringAt pointAt endAt
-step-stays s c =
-    by-cond (Stays c) (ltb 0 (c .points)) _ _ (λ t. by-cond (Stays c) (remains s (c .at) 16) _ _ (λ t. tt) refl)
-    (by-cond (Stays c) (ltb 0 (c .rings)) _ _ (λ t. by-cond (Stays c) (remains s (c .at) 4) _ _ (λ t. by-cond (Stays c) (ringFits c (wordAt (c .little) s (c .at))) _ _ (λ t. tt) refl) refl)
-    (by-cond (Stays c) (not (eqb (c .member) 0) && complete c) _ _
-    (λ t. by-cond (Stays c) (ltb (c .at) (length s)) _ _ (λ t. refl) (by-cond (Stays c) (eqb (c .at) (length s)) _ _ (λ t. refl) refl))
-    (by-cond (Stays c) (remains s (c .at) 1) _ _
-    (λ t. by-cond (Stays c) (ltb (getD s (c .at) 0) 2) _ _
-    (λ t. by-cond (Stays c) (remains s (c .at) 5) _ _
-    (λ t. by-cond (Stays c) (eqb (kindFault (slotOf c) c (wordAt (eqb (getD s (c .at) 0) 1) s (c .at + 1))) 0) _ _
-    (λ t. by-cond (Stays c) (remains s (c .at) 9) _ _ (λ t. by-cond (Stays c) (countFits (slotOf c) (wordAt (eqb (getD s (c .at) 0) 1) s (c .at + 5))) _ _ (λ t. tt) refl) refl) refl) refl) refl) refl)))
+step-stays s c = by-case (Stays c) s c (record {
+  refused = λ code t. refl;
+  point = λ p l. tt;
+  ring = λ p r l n f. tt;
+  end = λ p r t. (refl, refl);
+  geometry = λ p r t l little kind n k f. tt;
+})
 
 pub end-again : (s : List ℕ) (c d : Cursor) → stepAt s c ≡ End d → stepAt s d ≡ End d
 end-again s c d e = ap (stepAt s) (subst (Stays c) e (step-stays s c)) ∙ e

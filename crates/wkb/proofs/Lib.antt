@@ -1,5 +1,6 @@
 -- The theorems of the binary form.
 pub mod Steps
+pub mod Cases
 pub mod Again
 pub mod Complete
 pub mod Allowed

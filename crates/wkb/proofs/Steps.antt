@@ -36,6 +36,7 @@ pub record Popped (c d : Cursor) : Type 0 where
   pub points : d .points ≡ c .points
   pub polygons : d .polygons ≡ c .polygons
   pub total : d .total ≡ c .total
+  pub limit : d .limit ≡ c .limit
 
 pub pops : (c : Cursor) → Popped c (popped c)
 unfolding popped
@@ -43,7 +44,7 @@ pops c =
     by-equal (Popped c) (c .header) _ _ (λ e. kept refl) (λ e. by-cond (Popped c) (ltb 0 (c .fourth)) _ _ (λ t. kept e) (by-cond (Popped c) (ltb 0 (c .third)) _ _ (λ t. kept e) (kept e)))
   where
     kept : {header : Bool} {second third fourth : ℕ} → header ≡ false → Popped c (geometriesToCome header second third fourth (c .parts) c)
-    kept e = record { at = refl; member = refl; members = refl; header = e; parts = refl; rings = refl; points = refl; polygons = refl; total = refl }
+    kept e = record { at = refl; member = refl; members = refl; header = e; parts = refl; rings = refl; points = refl; polygons = refl; total = refl; limit = refl }
 
 -- What one fewer is, by where it stands: the member's own, and in the open collections at depth 4, 3 and 2.
 pub popped-own : (c : Cursor) → c .header ≡ true → popped c ≡ headerToCome false c
@@ -68,13 +69,13 @@ unfolding withMembers
 members-opened P stood n c p q r = by-cond P (stood .header) _ _ (λ t. p) (by-cond P (ltb 0 (stood .third)) _ _ (λ t. r) q)
 
 -- A count within its limits is not 0.
-pub count-some : (s : Slot) (n : ℕ) → countFits s n ≡ true → 0 < n
+pub count-some : (limit : ℕ) (s : Slot) (n : ℕ) → countFits limit s n ≡ true → 0 < n
 unfolding countFits
-count-some Sheet n e = leb-true 1 n (and-eq-true-iff (leb 1 n) (leb n 65) .0 e .0)
-count-some Table n e = let h = leb-true 2 n (and-eq-true-iff (leb 2 n) (leb n 1024) .0 e .0) in omega arith
-count-some Piece n e = let h = eqb-true n 1 e in omega arith
-count-some Part n e = leb-true 1 n (and-eq-true-iff (leb 1 n) (leb n 64) .0 e .0)
-count-some Member n e = leb-true 1 n (and-eq-true-iff (leb 1 n) (leb n 64) .0 e .0)
+count-some limit Sheet n e = leb-true 1 n (and-eq-true-iff (leb 1 n) (leb n limit) .0 e .0)
+count-some limit Table n e = let h = leb-true 2 n (and-eq-true-iff (leb 2 n) (leb n 1024) .0 e .0) in omega arith
+count-some limit Piece n e = let h = eqb-true n 1 e in omega arith
+count-some limit Part n e = leb-true 1 n (and-eq-true-iff (leb 1 n) (leb n 64) .0 e .0)
+count-some limit Member n e = leb-true 1 n (and-eq-true-iff (leb 1 n) (leb n 64) .0 e .0)
 
 -- Of a ring that is no table piece's: the test of the total as the code asks it, and what it says.
 pub ring-total : (c : Cursor) (n : ℕ) → (c .member ≡ 1 → ⊥) → 4 ≤ n → n ≤ 4096 → leb (c .total) (4096 - n) ≡ ringFits c n

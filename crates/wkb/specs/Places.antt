@@ -19,6 +19,7 @@ moved n c = record {
   points = c .points;
   polygons = c .polygons;
   total = c .total;
+  limit = c .limit;
 }
 
 -- Naming this member of the sheet, with so many members after it.
@@ -37,6 +38,7 @@ naming member members c = record {
   points = c .points;
   polygons = c .polygons;
   total = c .total;
+  limit = c .limit;
 }
 
 -- ---- geometries to come under the member
@@ -56,6 +58,7 @@ geometriesToCome header second third fourth parts c = record {
   points = c .points;
   polygons = c .polygons;
   total = c .total;
+  limit = c .limit;
 }
 
 -- The member's own header to come or not.
@@ -93,6 +96,7 @@ polygonToCome rings little points c = record {
   points = points;
   polygons = c .polygons;
   total = c .total;
+  limit = c .limit;
 }
 
 -- So many rings of it to come.
@@ -124,6 +128,7 @@ counted polygons total c = record {
   points = c .points;
   polygons = polygons;
   total = total;
+  limit = c .limit;
 }
 
 -- So many polygons begun under the member.

@@ -14,9 +14,9 @@ use Rattle.wkb.specs.Places.{moved, naming, headerToCome, secondToCome, 
 use Rattle.wkb_kinds.specs.Types.{crowdedAt, deepAt, faultAt}
 use Rattle.lent_little.specs.Ordered.{remains, wordAt, doubleAt}
 
--- The place before the first byte: the sheet's own header is to come.
-abbrev pub start : Cursor
-start = record {
+-- The place before the first byte of a sheet that may have so many members, the table among them: the sheet's own header is to come.
+abbrev pub start : ℕ → Cursor
+start limit = record {
   at = 0;
   member = 0;
   members = 0;
@@ -30,6 +30,7 @@ start = record {
   points = 0;
   polygons = 0;
   total = 0;
+  limit = limit;
 }
 
 -- Document 01's number and item for each answer of a step; an answer that is no refusal has code 0.
@@ -73,7 +74,7 @@ upTo limit n = cond (ltb n limit) (n + 1) n
 
 -- Where a member is complete and another follows, the place names that one, and its own header is to come.
 unfoldable pub renewed : Cursor → Cursor
-renewed c = cond (complete c && ltb 0 (c .members)) (headerToCome true (polygonsBegun 0 (naming (upTo 65 (c .member)) (c .members - 1) c))) c
+renewed c = cond (complete c && ltb 0 (c .members)) (headerToCome true (polygonsBegun 0 (naming (upTo (c .limit) (c .member)) (c .members - 1) c))) c
 
 -- ---- a geometry's header: byte order, type, count
 -- The 65th polygon under a member: 4. A collection at depth 5: 8.
@@ -87,13 +88,13 @@ deep c = deepAt (c .fourth)
 unfoldable pub kindFault : Slot → Cursor → ℕ → ℕ
 kindFault slot c kind = faultAt slot (crowded c) (deep c) kind
 
--- The count is within its limits: members of the sheet, triangles, rings of a table piece; and else rings, parts or members.
-unfoldable pub countFits : Slot → ℕ → Bool
-countFits Sheet n = leb 1 n && leb n 65
-countFits Table n = leb 2 n && leb n 1024
-countFits Piece n = eqb n 1
-countFits Part n = leb 1 n && leb n 64
-countFits Member n = leb 1 n && leb n 64
+-- The count is within its limits: members of the sheet, at most so many; triangles, rings of a table piece; and else rings, parts or members.
+unfoldable pub countFits : ℕ → Slot → ℕ → Bool
+countFits limit Sheet n = leb 1 n && leb n limit
+countFits limit Table n = leb 2 n && leb n 1024
+countFits limit Piece n = eqb n 1
+countFits limit Part n = leb 1 n && leb n 64
+countFits limit Member n = leb 1 n && leb n 64
 
 -- One geometry fewer is to come where this one stands: the member's own, or one of the innermost collection that has any left.
 unfoldable pub popped : Cursor → Cursor
@@ -144,7 +145,7 @@ geometryAt s c =
     (needing (remains s (c .at) 5) 1 c
     (unless (kindFault (slotOf c) c kind) c
     (needing (remains s (c .at) 9) 1 c
-    (needing (countFits (slotOf c) count) 4 c
+    (needing (countFits (c .limit) (slotOf c) count) 4 c
     (Geometry kind count (opened (slotOf c) c little kind count)))))))
 
 -- ---- a ring's count

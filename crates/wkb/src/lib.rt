@@ -6,7 +6,7 @@ ghost use lib.Ieee.{binary64, ofBits};
 ghost use Rattle.lent_little.specs.Ordered.{numberOf, field, remains, wordAt, doubleAt};
 ghost use Rattle.lent_little.specs.Places.{placeOf};
 ghost use mathlib.Core.Bool.{true};
-ghost use Rattle.wkb.specs.Steps.{complete, renewed, countFits, popped, withRings, withParts, withMembers, withSheet, fewerParts, opened, refusal, geometryAt, ringFits, withPoints, ringAt, afterPoint, pointAt, endAt, stepAt};
+ghost use Rattle.wkb.specs.Steps.{start, complete, renewed, countFits, popped, withRings, withParts, withMembers, withSheet, fewerParts, opened, refusal, geometryAt, ringFits, withPoints, ringAt, afterPoint, pointAt, endAt, stepAt};
 use wkb_kinds::Kind;
 use wkb_kinds::Slot;
 
@@ -18,22 +18,24 @@ pub struct Cursor {
     pub member: u32,
     // members of the sheet after this one
     pub members: u32,
-    // the member's own header is still to come
+    // the member's own header is still to come; the byte order of the open polygon
     pub header: bool,
+    pub little: bool,
     // members still to come of the open collections at depth 2, 3 and 4
     pub second: u32,
     pub third: u32,
     pub fourth: u32,
     // pieces of the table or parts of the open MultiPolygon still to come
     pub parts: u32,
-    // rings of the open polygon still to come, and its byte order
+    // rings of the open polygon still to come
     pub rings: u32,
-    pub little: bool,
     // points of the open ring still to come
     pub points: u32,
     // polygons begun under this member, and points of polygons counted in the sheet
     pub polygons: u32,
     pub total: u32,
+    // the most members that the sheet may have, the table among them
+    pub limit: u32,
 }
 
 // What a step answers, each with the next place: a geometry opened with its type and count, a ring with its count, a point with its two
@@ -119,22 +121,27 @@ fn less(n: u32) -> u32
 }
 
 impl Cursor {
-    // The place before the first byte.
-    pub const START: Cursor = Cursor {
-        at: 0,
-        member: 0,
-        members: 0,
-        header: false,
-        second: 0,
-        third: 0,
-        fourth: 0,
-        parts: 0,
-        rings: 0,
-        little: false,
-        points: 0,
-        polygons: 0,
-        total: 0,
-    };
+    // The place before the first byte of a sheet that may have so many members.
+    pub fn start(limit: u32) -> Cursor
+        ensures { λ r. ⌜ r ≡ start limit ⌝ }
+    {
+        Cursor {
+            at: 0,
+            member: 0,
+            members: 0,
+            header: false,
+            second: 0,
+            third: 0,
+            fourth: 0,
+            parts: 0,
+            rings: 0,
+            little: false,
+            points: 0,
+            polygons: 0,
+            total: 0,
+            limit: limit,
+        }
+    }
 
     fn is_complete(self) -> bool
         ensures { λ r. ⌜ r ≡ complete self ⌝ }
@@ -171,7 +178,7 @@ impl Cursor {
         }
         let left = self.members - 1;
         self.members = left;
-        if self.member < 65 {
+        if self.member < self.limit {
             let next = self.member + 1;
             self.member = next;
         }
@@ -316,7 +323,7 @@ impl Cursor {
             return self.refused(1);
         }
         let count = word(s, at + 5, little);
-        if !count_fits(slot, count) {
+        if !count_fits(self.limit, slot, count) {
             return self.refused(4);
         }
         Step::Geometry(kind, count, self.opened(slot, little, kind, count))
@@ -422,11 +429,11 @@ impl Cursor {
 }
 
 // The count is within its limits.
-fn count_fits(slot: Slot, n: u32) -> bool
-    ensures { λ r. ⌜ r ≡ countFits slot n ⌝ }
+fn count_fits(limit: u32, slot: Slot, n: u32) -> bool
+    ensures { λ r. ⌜ r ≡ countFits limit slot n ⌝ }
 {
     match slot {
-        Slot::Sheet => 1 <= n && n <= 65,
+        Slot::Sheet => 1 <= n && n <= limit,
         Slot::Table => 2 <= n && n <= 1024,
         Slot::Piece => n == 1,
         Slot::Part => 1 <= n && n <= 64,

@@ -7,12 +7,14 @@ use native.Mathlib.Omega.{arith}
 use denote.Ref.{now}
 use lib.IntN.{ℤ}
 use lib.ListN.{length, replicate, length-replicate}
+use lib.Seq.{take-all}
 use borrow.Author.Needs.{needs}
 use Rattle.plane.specs.Members.{Member}
+use Rattle.lent.specs.Stages.{value}
 use Rattle.table.specs.Sides.{trianglesOf}
 use Rattle.owners_judge.specs.Preparing.{Prepared}
 use Rattle.judged_sets.specs.Owning.{PolygonsAt}
-use Rattle.judged_sets.proofs.Following.{Following, polygons-count, following-none, following-marks, following-next, following-refused, following-more, following-done, refused-owned}
+use Rattle.judged_sets.proofs.Following.{Following, polygons-count, following-none, following-marks, following-next, following-refused, following-more, following-done}
 use Rattle.judged_sets.proofs.polygons.Statement.{statement}
 use Rattle.judged_sets.proofs.polygons.Tie as tie
 
@@ -75,11 +77,10 @@ judge-at-requires c κs =
     ((p .0 .0, p .0 .1, i .2 ∙ p .0 .2, i .3 ∙ p .0 .3), p .1, following-next (following d) (more d (p .2 .2)), i .0, i .1)
 
 returns : tie.Need-returns Inv-loop μ-loop
-returns c = λ keys ms rest w q n s.
+returns c =
     let j = judged (c .before .before) in
     let l = turn j .before .loop in
-    refused-owned (length (trianglesOf keys)) (l .k) (l .sets)
-    (following-refused (l .inv .5 keys ms rest w q n s) (more (turn j) s) (λ m b. j .judge-at .ensures keys m b w (l .inv .2 ∙ q) (l .inv .3 ∙ n)) (c .enum-told .given .1))
+    (tt, λ keys ms rest w q n s. following-refused (l .inv .5 keys ms rest w q n s) (more (turn j) s) (λ m b. j .judge-at .ensures keys m b w (l .inv .2 ∙ q) (l .inv .3 ∙ n)) (c .enum-told .given .1))
 
 mark-requires : tie.Need-mark-requires Inv-loop μ-loop
 mark-requires c κs =
@@ -102,6 +103,13 @@ loop-again c =
       λ keys ms rest w q n s.
           subst (Following (trianglesOf keys) _ ms rest _ _) (sym (m .ensures .0))
           (following-more (l .inv .5 keys ms rest w q n s) (more (turn j) s) (λ m b. j .judge-at .ensures keys m b w (l .inv .2 ∙ q) (l .inv .3 ∙ n)) (d .enum-told2 .given .1) (labels-kept j ∙ n)),
+    )
+
+returns-2 : tie.Need-returns-2 Inv-loop μ-loop
+returns-2 c =
+    let l = c .before .loop in (
+      l .inv .4,
+      λ keys ms rest w q n s. ap value (take-all (length (l .sets)) (l .sets) (omega arith)) ∙ following-done (l .inv .5 keys ms rest w q n s) (omega (arith, c .loop-test .left, polygons-count s .1)),
     )
 
 pub polygons-spec : {M : Type 1} → statement M
@@ -132,4 +140,4 @@ polygons-spec =
     (λ c. c .before .loop .inv .2)
     (λ c. c .before .loop .inv .3)
     (λ c. c .before .loop .inv .4)
-    (λ c. λ keys ms rest w q n s. following-done (c .before .loop .inv .5 keys ms rest w q n s) (omega (arith, c .loop-test .left, polygons-count s .1))))
+    returns-2)

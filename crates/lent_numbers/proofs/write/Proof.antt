@@ -7,7 +7,7 @@ use native.Mathlib.Omega.{arith}
 use denote.Ref.{now}
 use lib.ListN.{length, getD, take, drop}
 use lib.Seq.{sets, length-sets}
-use Rattle.lent_little.specs.Bytes.{heldBytes}
+use Rattle.lent_little.specs.Held.{heldBytes}
 use Rattle.lent_little.proofs.Bytes.{held-length, one-more}
 use Rattle.lent_numbers.proofs.write.Statement.{statement}
 use Rattle.lent_numbers.proofs.write.Tie as tie

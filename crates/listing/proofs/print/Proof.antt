@@ -1,8 +1,14 @@
 -- `listing::print` meets its contract: a refusal is one line, a judged sheet goes on to its listing. Assumes nothing.
-use mathlib.Core.Path.{sym, subst}
+use mathlib.Core.Path.{_≡_, sym, subst}
+use mathlib.Core.List.{List}
+use Prim.Native.Nat.{ℕ, _*_, _≤_}
 use native.Mathlib.Omega.{arith}
 use borrow.Author.Needs.{needs}
 use denote.Ref.{now}
+use lib.ListN.{length, take}
+use lib.Seq.{length-take-le}
+use Rattle.lent.specs.Stages.{Answer, value}
+use Rattle.judged.specs.Judged.{Judged, judgedSheet}
 use Rattle.judged.specs.Held.{JudgedHeld}
 use Rattle.judged.proofs.Standing.{stands, refused-is}
 use Rattle.lent_text.specs.Putting.{Put}
@@ -17,34 +23,52 @@ start c = c .before .before .before .before .before .before
 abbrev call : tie.After-n → tie.After-judged
 call c = c .before .before .before .before .before
 
--- What stands in the three lists once there are owner sets of so many triangles.
-standing : (c : tie.After-n) → let j = call c .judged in JudgedHeld (now (start (call c) .args .sheet)) (c .n .given .0 .0) (j .last .1 .0) (j .last .1 .1 .0) (j .last .1 .1 .1 .0)
-standing c = let j = call c .judged in stands (now (start (call c) .args .sheet)) (j .result) (j .last .1 .0) (j .last .1 .1 .0) (j .last .1 .1 .1 .0) (j .ensures) (c .n .given .0 .0) (c .n .given .1)
+-- The bytes, and of how many triangles there are owner sets.
+abbrev bytes : tie.After-judged → List ℕ
+bytes c = now (start c .args .sheet)
+
+abbrev many : tie.After-n → ℕ
+many c = c .n .given .0 .0
+
+-- The listing of what the bytes come to is put.
+known : (c : tie.After-judged) {o : Answer Judged} {r : ℕ} {after : List ℕ} → judgedSheet (bytes c) ≡ o
+    → Put 0 (listing o) (now (start c .args .text)) r after → Put 0 (listing (judgedSheet (bytes c))) (now (start c .args .text)) r after
+known c {r = r} {after = after} e = subst (λ o. Put 0 (listing o) (now (start c .args .text)) r after) (sym e)
+
+-- What stands in the three lists once there are owner sets, and that its fronts are there.
+standing : (c : tie.After-n) → let l = call c .judged .last .1 in
+    (j : Judged) × (judgedSheet (bytes (call c)) ≡ value j) × (length (j .sheet .table) ≡ many c) × JudgedHeld j (l .0) (take (3 * many c) (l .1 .0)) (take (many c) (l .1 .1 .0))
+standing c = let k = call c .judged in stands (bytes (call c)) (k .result) _ _ _ (k .ensures) (many c) (c .n .given .1)
+
+few : (c : tie.After-n) → many c ≤ 1024
+few c = let s = standing c in omega (arith, s .2, s .3 .held .few)
+
+opposite-room : (c : tie.After-n) → 3 * many c ≤ length (call c .judged .last .1 .1 .0)
+opposite-room c = omega (arith, few c, call c .judged .kept .1 .1 .0)
+
+sets-room : (c : tie.After-n) → many c ≤ length (call c .judged .last .1 .1 .1 .0)
+sets-room c = omega (arith, few c, call c .judged .kept .1 .1 .1 .0)
 
 put-judged-requires : tie.Need-put-judged-requires
 put-judged-requires c κs =
     let n = c .before .before .before .before .before in
-    let s = start (call n) in
-    ((now (s .args .sheet), standing n), s .pre)
+    let s = standing n in
+    ((s .0, s .3), start (call n) .pre)
 
 returns : tie.Need-returns
 returns c =
-    let p = c .before .before .put-line in
+    let p = c .before .before .put-line .ensures in
     let k = c .before .before .before .before .before .before in
     let j = k .before .before .before .before .before in
-    let a = start j .args in
-    let l = j .judged .last .1 in
-    let g = k .code .given in (
-      omega (arith, p .ensures .0),
-      subst (λ o. Put 0 (listing o) (now (a .text)) (p .result) (p .last .0))
-          (sym (refused-is (now (a .sheet)) (j .judged .result) (l .0) (l .1 .0) (l .1 .1 .0) (j .judged .ensures) (g .0 .0) (g .0 .1 .0) (g .1))) (p .ensures .1),
-    )
+    let g = k .code .given in
+    (omega (arith, p .0), known j (refused-is (bytes j) (j .judged .result) _ _ _ (j .judged .ensures) (g .0 .0) (g .0 .1 .0) (g .1)) (p .1))
 
 returns-2 : tie.Need-returns-2
 returns-2 c =
-    let p = c .before .before .put-judged in
+    let p = c .before .before .put-judged .ensures in
     let n = c .before .before .before .before .before .before .before .before in
-    (p .ensures .0, p .ensures .1 (now (start (call n) .args .sheet)) (standing n))
+    let s = standing n in
+    (p .0, known (call n) (s .1) (p .1 (s .0) (s .3)))
 
 pub print-spec : {M : Type 1} → statement M
 print-spec =
@@ -61,8 +85,11 @@ print-spec =
     (λ c κs. search needs)
     (λ c. search needs)
     (λ c. search needs)
-    (λ c. search needs)
-    (λ c. search needs)
+    (λ c. omega (arith, few (c .before .before)))
+    (λ c. opposite-room (c .before .before))
+    (λ c. sym (length-take-le _ _ (opposite-room (c .before .before .before))))
+    (λ c. sets-room (c .before .before .before))
+    (λ c. sym (length-take-le _ _ (sets-room (c .before .before .before .before))))
     put-judged-requires
     (λ c. search needs)
     returns

@@ -5,15 +5,15 @@ use Prim.Native.Nat.{ℕ, _+_, _-_, _*_, _≤_}
 use native.Mathlib.Omega.{arith}
 use borrow.Author.Needs.{needs}
 use denote.Ref.{now}
-use lib.ListN.{length, getD, take, length-append}
+use lib.ListN.{length, getD, length-append}
 use lib.Seq.{length-take-le, take-at}
 use Rattle.lent_text.specs.Putting.{Put}
-use Rattle.judged.specs.Judged.{judgedSheet}
+use Rattle.judged.specs.Judged.{Judged}
 use Rattle.judged.specs.Held.{JudgedHeld}
-use Rattle.judged.proofs.Standing.{few, sets-many, pairs, polygons-at}
+use Rattle.judged.proofs.Standing.{few, pairs, polygons-at}
 use Rattle.listing_lines.specs.Printing.{Figures, linesBy}
 use Rattle.listing.specs.Held.{AreasOf}
-use Rattle.listing.specs.Listing.{listing}
+use Rattle.listing.specs.Listing.{listingOf}
 use Rattle.listing.proofs.Sheet.{figures, listing-is}
 use Rattle.listing.proofs.put_judged.Statement.{statement}
 use Rattle.listing.proofs.put_judged.Tie as tie
@@ -26,65 +26,57 @@ abbrev start : tie.After-lay-areas → tie.Start
 start c = entry (c .before .before)
 
 abbrev laid : tie.After-repair → tie.After-lay-areas
-laid c = c .before .before .before .before .before
+laid c = c .before .before .before
 
--- The bytes s come to what stands in the lists.
-abbrev Judged : tie.Start → List ℕ → Type 0
-Judged c s = let a = c .args in JudgedHeld s (a .n) (now (a .numbers)) (now (a .opposite)) (now (a .sets))
+-- The judged sheet j stands in the lists, and how many owner sets there are.
+abbrev Stands : tie.Start → Judged → Type 0
+Stands c j = let a = c .args in JudgedHeld j (now (a .numbers)) (now (a .opposite)) (now (a .sets))
 
--- The owner set of each triangle.
-abbrev owned : tie.Start → List ℕ
-owned c = take (c .args .n) (now (c .args .sets))
+abbrev many : tie.Start → ℕ
+many c = length (now (c .args .sets))
 
 -- ---- the areas and the owner numbers that were left: one for each triangle, at the front of the work lists
 abbrev areas : tie.After-lay-areas → List ℕ
 areas c = c .lay-areas .last .1 .0
 
-areas-many : (c : tie.After-lay-areas) → length (areas c) ≡ start c .args .n
+areas-many : (c : tie.After-lay-areas) → length (areas c) ≡ many (start c)
 areas-many c = c .lay-areas .kept .1 .0 ∙ length-take-le _ _ (few (start c .pre .0 .1))
 
-areas-are : (c : tie.After-lay-areas) (s : List ℕ) (w : Judged (start c) s) → AreasOf (w .n) (areas c)
-areas-are c s w =
-    let a = start c .args in
-    subst (λ t. (s opposite l : List ℕ) (w : JudgedHeld s t (now (a .numbers)) opposite l) → AreasOf (w .n) (areas c)) (length-take-le _ _ (few w)) (c .lay-areas .ensures)
-    s (now (a .opposite)) (now (a .sets)) w
+areas-are : (c : tie.After-lay-areas) (j : Judged) → Stands (start c) j → AreasOf (j .sheet) (areas c)
+areas-are c j w = c .lay-areas .ensures j _ _ w (sym (length-take-le _ _ (few w)))
 
-areas-room : (c : tie.After-lay-areas) (rest : List ℕ) → start c .args .n ≤ length (areas c ++ rest)
+areas-room : (c : tie.After-lay-areas) (rest : List ℕ) → many (start c) ≤ length (areas c ++ rest)
 areas-room c rest = omega (arith, length-append (areas c) rest, areas-many c)
 
 abbrev owners : tie.After-repair → List ℕ
 owners c = c .repair .last .1 .1 .0
 
-owners-many : (c : tie.After-repair) → length (owners c) ≡ start (laid c) .args .n
+owners-many : (c : tie.After-repair) → length (owners c) ≡ many (start (laid c))
 owners-many c = c .repair .kept .1 .1 .0 ∙ length-take-le _ _ (few (start (laid c) .pre .0 .1))
 
-owners-room : (c : tie.After-repair) (rest : List ℕ) → start (laid c) .args .n ≤ length (owners c ++ rest)
+owners-room : (c : tie.After-repair) (rest : List ℕ) → many (start (laid c)) ≤ length (owners c ++ rest)
 owners-room c rest = omega (arith, length-append (owners c) rest, owners-many c)
 
 -- ---- the lines by them
-figures-are : (c : tie.After-repair) (x y : List ℕ) → x ≡ owners c → y ≡ areas (laid c) → Figures (owned (start (laid c))) x y
+figures-are : (c : tie.After-repair) (x y : List ℕ) → x ≡ owners c → y ≡ areas (laid c) → Figures (now (start (laid c) .args .sets)) x y
 figures-are c x y e f = let p = start (laid c) .pre .0 in rw (e, f) (figures (p .1) (owners c) (areas-are (laid c) (p .0) (p .1)) (owners-many c))
 
-lines-are : (c : tie.After-repair) (s : List ℕ) (w : Judged (start (laid c)) s) (x y : List ℕ) → x ≡ owners c → y ≡ areas (laid c)
-    → let a = start (laid c) .args in linesBy (c .repair .result) (getD (now (a .numbers)) (1 + 6 * a .n) 0 - 10_000_000) (owned (start (laid c))) x y ≡ listing (judgedSheet s)
-lines-are c s w x y e f =
-    let a = start (laid c) .args in
-    let m : getD (now (a .numbers)) (1 + 6 * a .n) 0 - 10_000_000 ≡ length (w .n .polygons) = omega (arith, polygons-at w .1) in
-    rw (e, f, m) (listing-is w (owners c) (areas-are (laid c) s w) (owners-many c) (c .repair .result) (c .repair .ensures))
+lines-are : (c : tie.After-repair) (j : Judged) → Stands (start (laid c)) j → (x y : List ℕ) → x ≡ owners c → y ≡ areas (laid c)
+    → let a = start (laid c) .args in linesBy (c .repair .result) (getD (now (a .numbers)) (1 + 6 * many (start (laid c))) 0 - 10_000_000) (now (a .sets)) x y ≡ listingOf j
+lines-are c j w x y e f =
+    let s = start (laid c) in
+    let m : getD (now (s .args .numbers)) (1 + 6 * many s) 0 - 10_000_000 ≡ length (j .sheet .polygons) = omega (arith, polygons-at w .1) in
+    rw (e, f, m) (listing-is w (owners c) (areas-are (laid c) j w) (owners-many c) (c .repair .result) (c .repair .ensures))
 
 lay-areas-requires : tie.Need-lay-areas-requires
-lay-areas-requires c κs =
-    let s = entry (c .before) in
-    let a = s .args in
-    let w = s .pre .0 in
-    (w .0, now (a .opposite), now (a .sets), subst (λ t. JudgedHeld (w .0) t (now (a .numbers)) (now (a .opposite)) (now (a .sets))) (sym (length-take-le _ _ (few (w .1)))) (w .1))
+lay-areas-requires c κs = let w = entry (c .before) .pre .0 in (w .0, _, _, w .1, sym (length-take-le _ _ (few (w .1))))
 
 repair-requires : tie.Need-repair-requires
-repair-requires c κs = let w = start (c .before .before .before .before) .pre .0 .1 in (pairs w, length-take-le _ _ (few w) ∙ sym (sets-many w), omega (arith, few w, sets-many w))
+repair-requires c κs = let w = start (c .before .before) .pre .0 .1 in (pairs w, length-take-le _ _ (few w), few w)
 
 put-lines-requires : tie.Need-put-lines-requires
 put-lines-requires c κs =
-    let r = c .before .before .before .before .before in
+    let r = c .before .before .before .before in
     let s = start (laid r) in
     let w = s .pre .0 .1 in
     (figures-are r _ _ (take-at (owners r) _ _ (owners-many r)) (take-at (areas (laid r)) _ _ (areas-many (laid r))), omega (arith, polygons-at w .1, w .held .few-polygons), s .pre .1)
@@ -92,35 +84,31 @@ put-lines-requires c κs =
 returns : tie.Need-returns
 returns c =
     let p = c .before .before .put-lines in
-    let r = c .before .before .before .before .before .before .before .before in (
+    let r = c .before .before .before .before .before .before .before in (
       p .ensures .0,
-      λ s w. subst (λ lines. Put 0 lines (now (start (laid r) .args .text)) (p .result) (p .last .0))
-          (lines-are r s w _ _ (take-at (owners r) _ _ (owners-many r)) (take-at (areas (laid r)) _ _ (areas-many (laid r)))) (p .ensures .1),
+      λ j w. subst (λ lines. Put 0 lines (now (start (laid r) .args .text)) (p .result) (p .last .0))
+          (lines-are r j w _ _ (take-at (owners r) _ _ (owners-many r)) (take-at (areas (laid r)) _ _ (areas-many (laid r)))) (p .ensures .1),
     )
 
 pub put-judged-spec : {M : Type 1} → statement M
 put-judged-spec =
     tie.close
     (tie.spec
-    (λ c. omega (arith, few (c .before .before .before .before .pre .0 .1)))
-    (λ c. omega (arith, few (c .before .before .before .before .pre .0 .1)))
+    (λ c. search needs)
+    (λ c. search needs)
     (λ c. omega (arith, few (c .before .before .before .before .pre .0 .1)))
     (λ c. polygons-at (entry c .pre .0 .1) .0)
     (λ c. omega (arith, polygons-at (entry c .pre .0 .1) .1))
-    (λ c. omega (arith, few (entry c .pre .0 .1)))
+    (λ c. few (entry c .pre .0 .1))
     (λ c. sym (length-take-le _ _ (few (entry (c .before) .pre .0 .1))))
     lay-areas-requires
-    (λ c. omega (arith, few (start (c .before) .pre .0 .1)))
-    (λ c. let w = start (c .before .before) .pre .0 .1 in omega (arith, pairs w .sides, sets-many w))
-    (λ c. sym (sets-many (start (c .before .before .before) .pre .0 .1)))
-    (λ c. omega (arith, few (start (c .before .before .before) .pre .0 .1)))
-    (λ c. sym (length-take-le _ _ (few (start (c .before .before .before .before) .pre .0 .1))))
+    (λ c. few (start (c .before) .pre .0 .1))
+    (λ c. sym (length-take-le _ _ (few (start (c .before .before) .pre .0 .1))))
     repair-requires
-    (λ c. sym (sets-many (start (laid (c .before .before .before)) .pre .0 .1)))
-    (λ c. owners-room (c .before .before .before) _)
-    (λ c. sym (length-take-le _ _ (owners-room (c .before .before .before .before) _)))
-    (λ c. areas-room (laid (c .before .before .before .before)) _)
-    (λ c. sym (length-take-le _ _ (areas-room (laid (c .before .before .before .before .before)) _)))
+    (λ c. owners-room (c .before .before) _)
+    (λ c. sym (length-take-le _ _ (owners-room (c .before .before .before) _)))
+    (λ c. areas-room (laid (c .before .before .before)) _)
+    (λ c. sym (length-take-le _ _ (areas-room (laid (c .before .before .before .before)) _)))
     put-lines-requires
     (λ c. search needs)
     returns)

@@ -9,7 +9,7 @@ use denote.Ref.{now}
 use lib.ListN.{length, take, drop, length-set, drop-of-length-le}
 use lib.Seq.{take-all}
 use Rattle.whole.proofs.Sums.{all-at}
-use Rattle.owners_marks.specs.Marking.{marked}
+use Rattle.owners_marks.specs.Sets.{marked}
 use Rattle.owners_marks.proofs.Owning.{next-set, one-more}
 use Rattle.owners_marks.proofs.mark.Statement.{statement}
 use Rattle.owners_marks.proofs.mark.Tie as tie

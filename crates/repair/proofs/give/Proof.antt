@@ -4,7 +4,7 @@ use native.Mathlib.Omega.{arith}
 use denote.Ref.{now}
 use lib.ListN.{getD}
 use Rattle.repair_regions.proofs.Spreading.{most, in-table}
-use Rattle.repair.proofs.Giving.{region-given}
+use Rattle.repair.proofs.Giving.{is-largest, region-given}
 use borrow.Author.Needs.{needs}
 use Rattle.repair.proofs.give.Statement.{statement}
 use Rattle.repair.proofs.give.Tie as tie
@@ -39,7 +39,7 @@ returns-3 c =
     let s = start k in
     let a = k .collect .ensures in
     let zero : getD (now (s .args .numbers)) (s .args .t) 0 ≡ 0 = omega (arith, u .before .before .if1 .left) in
-    let best = h .highest .ensures in (
+    let best = is-largest (s .pre .0) (s .pre .1) (s .args .t) (s .pre .2) zero (u .if2 .left) (a .0) (a .1) (a .2) (a .3 zero) (h .highest .ensures) in (
       region-given (s .pre .0) (s .pre .1) (s .args .t) (s .pre .2) zero (u .if2 .left) (a .0) (a .1) (a .2) (a .3 zero) best (c .before .before .fill .ensures),
       record { still = a .0 .still; there = a .3 },
     )

@@ -5,13 +5,14 @@ use Prim.Native.Nat.{_-_, _≤_}
 use native.Mathlib.Omega.{arith}
 use denote.Ref.{now}
 use lib.ListN.{length, length-replicate}
+use Rattle.repair.specs.Repair.{largest}
 use Rattle.repair.specs.Giving.{State}
 use Rattle.repair.proofs.Giving.{MetTo, none-given, met-next, all-given}
 use Rattle.repair.proofs.give_all.Statement.{statement}
 use Rattle.repair.proofs.give_all.Tie as tie
 
 abbrev Inv-loop : tie.InvT-loop
-Inv-loop opposite numbers met₀ group₀ owners₀ n₀ t₀ met group owners n t = State opposite numbers met group n owners × MetTo numbers met t × (t ≤ length numbers)
+Inv-loop opposite numbers met₀ group₀ owners₀ n₀ t₀ met group owners n t = State (largest opposite) opposite numbers met group n owners × MetTo numbers met t × (t ≤ length numbers)
 
 abbrev μ-loop : tie.MeasureT-loop
 μ-loop opposite numbers met₀ group₀ owners₀ n₀ t₀ met group owners n t = length numbers - t
@@ -26,7 +27,7 @@ turn c = c .before .before .before .before .before .before .before .before .befo
 loop-holds : tie.Need-loop-holds Inv-loop μ-loop
 loop-holds c =
     let s = c .before .before .before .before .before in
-    (none-given _ _ (s .pre .1) (s .pre .2) (s .pre .3), (λ u h. absurd (omega arith)), omega arith)
+    (none-given _ _ _ (s .pre .1) (s .pre .2) (s .pre .3), (λ u h. absurd (omega arith)), omega arith)
 
 give-requires : tie.Need-give-requires Inv-loop μ-loop
 give-requires c κs =

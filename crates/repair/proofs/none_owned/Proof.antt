@@ -5,7 +5,8 @@ use native.Mathlib.Omega.{arith}
 use borrow.Author.Needs.{needs}
 use denote.Ref.{now}
 use lib.ListN.{length, getD}
-use Rattle.repair.proofs.Giving.{all-zero, one-not-zero, zero-next}
+use Rattle.repair.proofs.Filling.{one-further}
+use Rattle.repair.proofs.Giving.{all-zero, one-not-zero}
 use Rattle.repair.proofs.none_owned.Statement.{statement}
 use Rattle.repair.proofs.none_owned.Tie as tie
 
@@ -22,7 +23,7 @@ returns : tie.Need-returns Inv-loop μ-loop
 returns c = sym (one-not-zero (now (c .before .before .before .before .args .numbers)) (c .before .before .before .loop .t) (c .if1 .taken))
 
 loop-again : tie.Need-loop-again Inv-loop μ-loop
-loop-again c = let l = c .before .before .before .loop in (omega arith, zero-next (now (c .before .before .before .before .args .numbers)) (l .t) (l .inv .1) (omega (arith, c .if1 .left)))
+loop-again c = let l = c .before .before .before .loop in (omega arith, one-further (λ i. getD (now (c .before .before .before .before .args .numbers)) i 0 ≡ 0) (l .t) (l .inv .1) (omega (arith, c .if1 .left)))
 
 returns-2 : tie.Need-returns-2 Inv-loop μ-loop
 returns-2 c = sym (all-zero (now (c .before .before .args .numbers)) (λ i h. c .before .loop .inv .1 i (omega arith)))

@@ -3,7 +3,7 @@ use mathlib.Core.Path.{sym, _∙_, ap}
 use native.Mathlib.Omega.{arith}
 use borrow.Author.Needs.{needs}
 use Rattle.repair.specs.Repair.{settledBy}
-use Rattle.repair.proofs.OneOwner.{settled-small}
+use Rattle.repair.proofs.Filling.{settled-small}
 use Rattle.repair.proofs.owner_of.Statement.{statement}
 use Rattle.repair.proofs.owner_of.Tie as tie
 

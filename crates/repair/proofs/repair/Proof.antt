@@ -1,14 +1,16 @@
--- `repair::repair` meets its contract: the settled numbers stand at the front of the work list and, where there is an owner at all, in the owners. Assumes nothing.
+-- `repair::repair` meets its contract: the settled numbers stand at the front of the work list and, where there is an owner at all, in the owners,
+-- which then are the numbers given. Assumes nothing.
 use mathlib.Core.Path.{sym, _∙_, ap, subst}
 use mathlib.Core.Bool.{false}
-use mathlib.Core.List.{List}
+use mathlib.Core.List.{List, map}
 use Prim.Native.Nat.{ℕ}
 use native.Mathlib.Omega.{arith}
 use denote.Ref.{now}
 use lib.ListN.{length, replicate}
 use lib.Seq.{length-take-le}
+use Rattle.owners_marks.specs.Sets.{ownersOf}
 use Rattle.repair_regions.specs.Spreading.{Paired}
-use Rattle.repair.proofs.Giving.{laid-room, laid-front, length-front, unmarked-front, repaired-none, repaired-all}
+use Rattle.repair.proofs.Giving.{laid-room, laid-front, length-front, unmarked-front, nobody-owns, not-all-given, all-are-given}
 use borrow.Author.Needs.{needs}
 use Rattle.repair.proofs.repair.Statement.{statement}
 use Rattle.repair.proofs.repair.Tie as tie
@@ -42,7 +44,7 @@ slice-aggregate-none-owned c = let k = c .before .before in sym (length-front (s
 returns : tie.Need-returns
 returns c =
     let k = c .before .before .before .before in
-    repaired-none (now (start k .args .opposite)) (sets k) (laid-front (sets k) _ _ (k .settle .ensures)) (sym (c .before .none-owned .ensures) ∙ c .if1 .taken)
+    nobody-owns _ (now (start k .args .opposite)) (map ownersOf (sets k)) (laid-front (sets k) _ _ (k .settle .ensures)) (sym (c .before .none-owned .ensures) ∙ c .if1 .taken)
 
 array-share-prefix-numbers-2 : tie.Need-array-share-prefix-numbers-2
 array-share-prefix-numbers-2 c = let k = laid (owned c) in laid-room (sets k) _ _ (k .settle .ensures)
@@ -69,12 +71,28 @@ give-all-requires c κs =
       b .before .before .settle2 .ensures ∙ sym (laid-front (sets k) _ _ (k .settle .ensures)),
     )
 
+-- ---- the numbers given, and the place of the first 0 among them
+abbrev gave : tie.After-first-ungiven → tie.After-give-all
+gave c = c .before .before .before .before .before .before
+
+abbrev some-owner : tie.After-first-ungiven → tie.Else1
+some-owner c = owned (gave c .before .before .before .before .before)
+
 returns-2 : tie.Need-returns-2
 returns-2 c =
-    let g = c .before .before .before .before in
-    let e = owned (g .before .before .before .before .before) in
+    let f = c .before in
+    let e = some-owner f in
     let k = laid e in
-    repaired-all (now (start k .args .opposite)) (sets k) (laid-front (sets k) _ _ (k .settle .ensures)) (sym (e .before .none-owned .ensures) ∙ e .if1 .left) (g .give-all .ensures)
+    not-all-given _ (now (start k .args .opposite)) (map ownersOf (sets k)) (laid-front (sets k) _ _ (k .settle .ensures)) (sym (e .before .none-owned .ensures) ∙ e .if1 .left)
+    (gave f .give-all .ensures) (f .first-ungiven .ensures .0) (λ z. omega (arith, c .if2 .taken))
+
+returns-3 : tie.Need-returns-3
+returns-3 c =
+    let f = c .before in
+    let e = some-owner f in
+    let k = laid e in
+    all-are-given _ (now (start k .args .opposite)) (map ownersOf (sets k)) (laid-front (sets k) _ _ (k .settle .ensures)) (sym (e .before .none-owned .ensures) ∙ e .if1 .left)
+    (gave f .give-all .ensures) (f .first-ungiven .ensures .0) (omega (arith, c .if2 .left))
 
 pub repair-spec : {M : Type 1} → statement M
 repair-spec =
@@ -95,5 +113,9 @@ repair-spec =
     (λ c. search needs)
     slice-aggregate-give-all-3
     give-all-requires
+    (λ c κs. search needs)
     (λ c. search needs)
-    returns-2)
+    (λ c. search needs)
+    returns-2
+    (λ c. search needs)
+    returns-3)

@@ -1,14 +1,16 @@
 -- `repair::settle` meets its contract. The invariant: the first t numbers are those of their sets. Assumes nothing.
 use mathlib.Core.Path.{_≡_, refl, sym, _∙_}
+use mathlib.Core.List.{map}
 use Prim.Native.Nat.{ℕ, _-_, _≤_, _<_}
 use native.Mathlib.Omega.{arith}
 use borrow.Author.Needs.{needs}
 use denote.Ref.{now}
 use lib.ListN.{length, getD, length-set, length-map}
 use lib.Seq.{ext-getD}
-use Rattle.owners_marks.specs.Marks.{standingOf}
+use Rattle.owners_marks.specs.Sets.{ownersOf, standingOf}
 use Rattle.repair.specs.Repair.{settledBy, settled}
-use Rattle.repair.proofs.Filling.{set-next, settled-at}
+use Rattle.repair.proofs.OneOwner.{length-settled}
+use Rattle.repair.proofs.Filling.{set-next, settled-set}
 use Rattle.repair.proofs.settle.Statement.{statement}
 use Rattle.repair.proofs.settle.Tie as tie
 
@@ -38,8 +40,9 @@ returns : tie.Need-returns Inv-loop μ-loop
 returns c =
     let l = c .before .loop in
     let a = c .before .before .before .before .args in
-    let n = length-map (now (a .sets)) (λ set. settledBy (standingOf set)) in
-    ext-getD 0 (l .numbers) (settled (now (a .sets))) (omega (arith, n)) (λ i h. l .inv .2 i (omega arith) ∙ sym (settled-at (now (a .sets)) i (omega arith)))
+    let owners = map ownersOf (now (a .sets)) in
+    ext-getD 0 (l .numbers) (settled owners) (omega (arith, length-settled owners, length-map (now (a .sets)) ownersOf))
+    (λ i h. l .inv .2 i (omega arith) ∙ sym (settled-set (now (a .sets)) i (omega arith)))
 
 pub settle-spec : {M : Type 1} → statement M
 settle-spec =

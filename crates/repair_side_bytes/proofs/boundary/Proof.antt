@@ -1,18 +1,20 @@
 -- `repair_side_bytes::boundary` meets its contract: the owner numbers, and then the numbers of the boundary sides, stand at the front of the work
 -- lists. Assumes nothing.
 use mathlib.Core.Path.{_≡_, sym, _∙_, ap, subst}
-use mathlib.Core.List.{List, _++_, flatMap}
+use mathlib.Core.List.{List, _++_, flatMap, map}
 use Prim.Native.Nat.{ℕ, _*_, _≤_}
 use native.Mathlib.Omega.{arith}
 use borrow.Author.Needs.{needs}
 use denote.Ref.{now}
-use lib.ListN.{length, take, drop, length-append}
+use lib.ListN.{length, take, drop, length-append, length-map}
 use lib.Seq.{length-take-le, take-append-le}
 use Rattle.whole.specs.Sums.{All}
+use Rattle.owners_marks.specs.Sets.{ownersOf}
 use Rattle.repair_regions.specs.Spreading.{Paired}
+use Rattle.repair.specs.Repair.{largest}
 use Rattle.repair_sides.specs.Numbered.{boundaryNumbers}
 use Rattle.repair_sides.proofs.Laying.{front-laid}
-use Rattle.lent.specs.Answered.{Answered}
+use Rattle.lent.specs.Answered.{Outcome, Answered}
 use Rattle.lent.proofs.Answered.{answered-refusal, answered-short, answered-bytes}
 use Rattle.lent_little.specs.Held.{sideHeld, SideIn}
 use Rattle.lent_little.proofs.Bytes.{side-length, all-length}
@@ -25,21 +27,29 @@ use Rattle.repair_side_bytes.proofs.boundary.Tie as tie
 abbrev start : tie.After-repair → tie.Start
 start c = c .before .before .before .before .before .before
 
-abbrev call : tie.Else1 → tie.After-repair
-call c = c .before .before
+abbrev call : tie.After-enum-told → tie.After-repair
+call c = c .before .before .before
 
-abbrev owners : tie.Else1 → List ℕ
+abbrev owners : tie.After-enum-told → List ℕ
 owners c = call c .repair .last .1 .1 .0
 
-many : (c : tie.Else1) → length (owners c) ≡ length (now (start (call c) .args .sets))
-many c = let r = call c in let a = start r .args in as-many (now (a .opposite)) (now (a .sets)) (r .repair .result) (owners c) (r .repair .ensures) (c .if1 .left)
+-- What is answered.
+abbrev comes : tie.Start → Outcome
+comes s = let a = s .args in sidesOutcome (now (a .numbers)) (largest (now (a .opposite))) (now (a .opposite)) (map ownersOf (now (a .sets))) (a .polygon)
+
+-- The sides that are answered for the owner numbers.
+abbrev sides-for : tie.Start → List ℕ → Outcome
+sides-for s l = sidesHeld (now (s .args .numbers)) (boundaryNumbers (now (s .args .opposite)) l (s .args .polygon))
+
+many : (c : tie.After-enum-told) → length (owners c) ≡ length (now (start (call c) .args .sets))
+many c = as-many (call c .repair .ensures) (c .enum-told .given .1) ∙ length-map (now (start (call c) .args .sets)) ownersOf
 
 -- There is room for as many sides as the largest table has.
 fits : (c : tie.Start) → length (now (c .args .opposite)) ≤ 3072
 fits c = omega (arith, c .pre .0 .sides, c .pre .1)
 
 -- ---- the call of `repair_sides::boundary`, the sides that it left, and the numbers of the boundary sides
-abbrev owned : tie.After-boundary → tie.Else1
+abbrev owned : tie.After-boundary → tie.After-enum-told
 owned c = c .before .before .before
 
 abbrev entry : tie.After-boundary → tie.Start
@@ -68,12 +78,8 @@ sides-front : (c : tie.After-boundary) (rest : List ℕ) → take (c .boundary .
 sides-front c rest = take-append-le _ (left c) rest (found c .0) ∙ found c .1
 
 -- What is answered is those sides, 16 bytes each.
-outcome : (c : tie.After-boundary) → let a = entry c .args in sidesOutcome (now (a .numbers)) (now (a .opposite)) (now (a .sets)) (a .polygon) ≡ sidesHeld (now (a .numbers)) (sides c)
-outcome c =
-    let r = call (owned c) in
-    let a = entry c .args in
-    goes-on (now (a .opposite)) (now (a .sets)) (r .repair .result) (owners (owned c)) (r .repair .ensures) (owned c .if1 .left)
-    (λ o. sidesHeld (now (a .numbers)) (boundaryNumbers (now (a .opposite)) o (a .polygon)))
+outcome : (c : tie.After-boundary) → comes (entry c) ≡ sidesHeld (now (entry c .args .numbers)) (sides c)
+outcome c = goes-on (call (owned c) .repair .ensures) (owned c .enum-told .given .1) (sides-for (entry c))
 
 sixteen : (c : tie.After-boundary) → let h = sideHeld (now (entry c .args .numbers)) in length (flatMap h (sides c)) ≡ 16 * length (sides c)
 sixteen c = let n = now (entry c .args .numbers) in all-length 16 (sideHeld n) (side-length n) (sides c)
@@ -82,11 +88,7 @@ repair-requires : tie.Need-repair-requires
 repair-requires c κs = let p = c .before .before .before .before .before .pre in (p .0, length-take-le _ _ (omega (arith, p .1)), p .1)
 
 returns : tie.Need-returns
-returns c =
-    let r = c .before .before in
-    let a = start r .args in
-    answered-refusal _ _ 30 0 (not-repaired (now (a .opposite)) (now (a .sets)) (r .repair .result) (r .repair .last .1 .1 .0) (r .repair .ensures)
-    (λ o. sidesHeld (now (a .numbers)) (boundaryNumbers (now (a .opposite)) o (a .polygon))) (c .if1 .taken))
+returns c = let k = c .before in let r = k .before .before .before in answered-refusal _ _ _ _ (not-repaired (r .repair .ensures) (sides-for (start r)) (k .repaired .given .1))
 
 boundary-requires : tie.Need-boundary-requires
 boundary-requires c κs =
@@ -106,8 +108,8 @@ write-sides-requires c κs =
       subst (λ l. 16 * length l ≤ length (now (a .out))) (sym (sides-front b _)) (omega (arith, count b)),
     )
 
-mul-result : tie.Need-mul-result
-mul-result c =
+mul-result-2 : tie.Need-mul-result-2
+mul-result-2 c =
     let b = c .before .before .before .before .before .before .before in
     omega (arith, found b .0, b .boundary .kept .1 .1 .1 .0 ∙ length-take-le _ _ (fits (entry b)), fits (entry b))
 
@@ -118,8 +120,8 @@ returns-3 c =
     let b = o .before .before in
     let a = entry b .args in
     let n = now (a .numbers) in
-    subst (λ m. Answered (sidesOutcome n (now (a .opposite)) (now (a .sets)) (a .polygon)) (now (a .out)) (m * 256) (w .last .1 .1 .0)) (count b)
-    (answered-bytes _ _ (length (sides b)) _ (outcome b) _ (omega (arith, sixteen b, count b, o .if2 .left))
+    subst (λ m. Answered (comes (entry b)) (now (a .out)) (m * 256) (w .last .1 .1 .0)) (count b)
+    (answered-bytes _ _ (length (sides b)) _ (outcome b) _ (omega (arith, sixteen b, count b, o .if1 .left))
     (w .ensures
     ∙ ap (λ l. flatMap (sideHeld n) l ++ drop (16 * length l) (now (a .out))) (sides-front b _)
     ∙ ap (λ m. flatMap (sideHeld n) (sides b) ++ drop m (now (a .out))) (sym (sixteen b))))
@@ -131,7 +133,13 @@ boundary-spec =
     (λ c. search needs)
     (λ c. sym (length-take-le _ _ (omega arith)))
     repair-requires
+    (λ c. search needs)
+    (λ c. search needs)
+    (λ c. search needs)
+    (λ c. search needs)
+    (λ c. search needs)
     returns
+    (λ c. search needs)
     (λ c. room (owners c) _ _ (many c))
     (λ c. sym (length-take-le _ _ (room (owners (c .before)) _ _ (many (c .before)))))
     (λ c. fits (start (call (c .before))))
@@ -141,6 +149,6 @@ boundary-spec =
     (λ c. sides-room (c .before .before) _)
     (λ c. sym (length-take-le _ _ (sides-room (c .before .before .before) _)))
     write-sides-requires
-    mul-result
+    mul-result-2
     (λ c. search needs)
     returns-3)

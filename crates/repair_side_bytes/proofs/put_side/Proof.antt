@@ -7,8 +7,7 @@ use denote.Ref.{now}
 use lib.ListN.{getD}
 use lib.Seq.{sets}
 use borrow.Author.Needs.{needs}
-use Rattle.lent_little.specs.Bytes.{heldBytes}
-use Rattle.lent_little.specs.Held.{endOf, cornerHeld}
+use Rattle.lent_little.specs.Held.{endOf, cornerHeld, heldBytes}
 use Rattle.lent_little.proofs.Bytes.{held-length, corner-length}
 use Rattle.lent_little.proofs.Stored.{sets-behind}
 use Rattle.repair_side_bytes.proofs.put_side.Statement.{statement}

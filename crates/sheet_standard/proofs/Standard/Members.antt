@@ -103,7 +103,7 @@ module _ (s : List ℕ) (c : Cursor) (b : Taken) (l : Level) (x : Next s c b l) 
       let r = taking-raw l s c b (x .at-it) (x .raw) in
       let z = taking-closed l c (x .at-it) in
       rw (
-        geometry-goes s c b (slotAt l) little 3 n _ (at-level l c (x .raw .member) (x .no-points) (x .no-rings) (x .at-it)) (slot-at l c (x .raw .member) (x .at-it)) q (polygon-allowed l c few) (count-allowed l n (f .0)),
+        geometry-goes s c b (slotAt l) little 3 n _ (at-level l c (x .raw .member) (x .no-points) (x .no-rings) (x .at-it)) (slot-at l c (x .raw .member) (x .at-it)) q (polygon-allowed l c few) (count-allowed (c .limit) l n (f .0)),
         polygon-opened l c little n (x .at-it) few,
         polygon-taken l c b little n (x .at-it),
         ← polygon-outcome s (taking l c) (begun l b) r z few n (f .0 .0) little (q .nine) rs w refl,
@@ -124,7 +124,7 @@ module _ (s : List ℕ) (c : Cursor) (b : Taken) (l : Level) (x : Next s c b l) 
       let q = heads s (c .at) little (typeOf kind) n _ (x .raw .within) k4 n4 e in
       let r = taking-raw l s c b (x .at-it) (x .raw) in
       let v = taking-closed l c (x .at-it) in
-      let counts : countFits Member n ≡ true = rw (slot-whole l y) at (count-allowed l n f) in
+      let counts : countFits (c .limit) Member n ≡ true = rw (slot-whole l y) at (count-allowed (c .limit) l n f) in
       rw (
         geometry-goes s c b Member little (typeOf kind) n _ (at-level l c (x .raw .member) (x .no-points) (x .no-rings) (x .at-it)) (slot-at l c (x .raw .member) (x .at-it) ∙ slot-whole l y) q allowed counts,
         place,
@@ -192,7 +192,7 @@ module _ (s : List ℕ) (c : Cursor) (b : Taken) (l : Level) (x : Next s c b l) 
   polygon-then : (k : GeometryRead s c b) → k .kind ≡ 3 → c .polygons < 64 → Back s c → Found s c b
   polygon-then k e few later =
       let slot = slot-at l c (x .raw .member) (x .at-it) in
-      let f : FromTo 1 64 (k .n) = allowed-count l (k .n) (rw slot at (k .counts)) in
+      let f : FromTo 1 64 (k .n) = allowed-count (c .limit) l (k .n) (rw slot at (k .counts)) in
       polygon-return (k .little) (k .n) few f (k .nine) (rw e at (k .bytes))
       (rw (slot, e, polygon-opened l c (k .little) (k .n) (x .at-it) few, polygon-taken l c b (k .little) (k .n) (x .at-it)) at (k .on-with)) later
 
@@ -200,13 +200,13 @@ module _ (s : List ℕ) (c : Cursor) (b : Taken) (l : Level) (x : Next s c b l) 
   whole-then y k (polygon e few) later = polygon-then k e few later
   whole-then y k (parts e) later =
       let slot = slot-at l c (x .raw .member) (x .at-it) in
-      let f : FromTo 1 64 (k .n) = allowed-count l (k .n) (rw slot at (k .counts)) in
+      let f : FromTo 1 64 (k .n) = allowed-count (c .limit) l (k .n) (rw slot at (k .counts)) in
       holding-return part tt (zero-parts l c y (x .at-it)) (k .little) MultiPolygon (k .n) f (k .nine)
       (λ gs ch n. fits-holding l (k .little) MultiPolygon gs (record { whole = y; number = n; kinds = inl (refl, ch) })) (rw e at (k .bytes))
       (rw (slot ∙ slot-whole l y, e, parts-opened l c (k .little) (k .n) y (x .at-it), other-taken l c (entered part (k .n) (taking l c)) b 6 (k .n) (x .at-it) refl) at (k .on-with)) later
   whole-then y k (members e z) later =
       let slot = slot-at l c (x .raw .member) (x .at-it) in
-      let f : FromTo 1 64 (k .n) = allowed-count l (k .n) (rw slot at (k .counts)) in
+      let f : FromTo 1 64 (k .n) = allowed-count (c .limit) l (k .n) (rw slot at (k .counts)) in
       holding-return (deeper l) (inside-deeper l c y (x .at-it) z) (zero-deeper l s c b (x .raw) (x .at-it)) (k .little) Collection (k .n) f (k .nine)
       (λ gs ch n. fits-holding l (k .little) Collection gs (record { whole = y; number = n; kinds = inr (refl, ch) })) (rw e at (k .bytes))
       (rw (slot ∙ slot-whole l y, e, members-opened l s c b (k .little) (k .n) y (x .raw) (x .at-it) z, other-taken l c (entered (deeper l) (k .n) (taking l c)) b 7 (k .n) (x .at-it) refl) at (k .on-with)) later

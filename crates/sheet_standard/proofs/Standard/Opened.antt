@@ -76,27 +76,27 @@ begun-is third c b a = cond-no _ _ (a .0)
 begun-is second c b a = cond-no _ _ (a .0)
 
 -- ---- counts
-count-fits : (n : ℕ) → FromTo 1 64 n → (leb 1 n && leb n 64) ≡ true
-count-fits n h = rw (le-leb 1 n (h .0), le-leb n 64 (h .1)) refl
+pub count-fits : (low high n : ℕ) → FromTo low high n → (leb low n && leb n high) ≡ true
+count-fits low high n h = rw (le-leb low n (h .0), le-leb n high (h .1)) refl
 
-pub count-allowed : (l : Level) (n : ℕ) → FromTo 1 64 n → countFits (slotAt l) n ≡ true
+pub count-allowed : (limit : ℕ) (l : Level) (n : ℕ) → FromTo 1 64 n → countFits limit (slotAt l) n ≡ true
 unfolding countFits
-count-allowed part n h = count-fits n h
-count-allowed own n h = count-fits n h
-count-allowed fourth n h = count-fits n h
-count-allowed third n h = count-fits n h
-count-allowed second n h = count-fits n h
+count-allowed limit part n h = count-fits 1 64 n h
+count-allowed limit own n h = count-fits 1 64 n h
+count-allowed limit fourth n h = count-fits 1 64 n h
+count-allowed limit third n h = count-fits 1 64 n h
+count-allowed limit second n h = count-fits 1 64 n h
 
-fits-count : (n : ℕ) → (leb 1 n && leb n 64) ≡ true → FromTo 1 64 n
-fits-count n e = let w = and-true (leb 1 n) (leb n 64) e in (leb-true 1 n (w .0), leb-true n 64 (w .1))
+pub fits-count : (low high n : ℕ) → (leb low n && leb n high) ≡ true → FromTo low high n
+fits-count low high n e = let w = and-true (leb low n) (leb n high) e in (leb-true low n (w .0), leb-true n high (w .1))
 
-pub allowed-count : (l : Level) (n : ℕ) → countFits (slotAt l) n ≡ true → FromTo 1 64 n
+pub allowed-count : (limit : ℕ) (l : Level) (n : ℕ) → countFits limit (slotAt l) n ≡ true → FromTo 1 64 n
 unfolding countFits
-allowed-count part n e = fits-count n e
-allowed-count own n e = fits-count n e
-allowed-count fourth n e = fits-count n e
-allowed-count third n e = fits-count n e
-allowed-count second n e = fits-count n e
+allowed-count limit part n e = fits-count 1 64 n e
+allowed-count limit own n e = fits-count 1 64 n e
+allowed-count limit fourth n e = fits-count 1 64 n e
+allowed-count limit third n e = fits-count 1 64 n e
+allowed-count limit second n e = fits-count 1 64 n e
 
 -- ---- a Polygon
 pub polygon-allowed : (l : Level) (c : Cursor) → c .polygons < 64 → kindFault (slotAt l) c 3 ≡ 0

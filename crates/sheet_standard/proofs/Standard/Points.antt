@@ -18,11 +18,12 @@ use Rattle.wkb.specs.Standard.{Pair, encodePoint, encodeRing}
 use Rattle.wkb.specs.Steps.{renewed, afterPoint}
 use Rattle.sheet.specs.Reading.{Taken, held, push, noted, pointing}
 use Rattle.sheet.specs.Going.{reading}
+use Rattle.sheet.proofs.Run.{renewed-at}
 use Rattle.sheet_standard.specs.Limits.{numberOf, pointOf}
 use Rattle.sheet_standard.proofs.Standard.Fields.{Bytes, Points, points}
 use Rattle.sheet_standard.proofs.Standard.Steps.{point-goes, point-back}
 use Rattle.sheet_standard.proofs.Standard.Left.{Left, leftBytes, Closes, PointFits, Stands, Raw, front, outcome, Ends, millimetres-same, pushed, still-marked, Found, Through, Back}
-use Rattle.sheet_standard.proofs.Standard.Renewed.{renew-good, renew-stands, renew-back, renew-outcome, renewed-place}
+use Rattle.sheet_standard.proofs.Standard.Renewed.{renew-good, renew-stands, renew-back, renew-outcome}
 
 -- The place after a point, before a complete member gives way to the next.
 abbrev pub passed : Cursor → Cursor
@@ -135,7 +136,7 @@ point-through s c b p ps rs w r h later =
     let st = point-stands s c b r some x y (q .sixteen) p ps rs w (X .is) (Y .is) q h in
     let go = point-goes s c b p _ x y some q (X .is) (Y .is) (λ n. closes-next b p ps x y (number-is (p .x) x (X .is)) (number-is (p .y) y (Y .is)) (h .closes) .1 (let m = h .points-number in omega arith)) in
     rw (go, pointing-member c x y b (r .member), ← point-outcome s c b r some x y (q .sixteen) p ps rs w (X .is) (Y .is), ← renew-outcome s (passed c) (withPoint x y b) ps rs w raw st)
-    (later (renewed (passed c)) (withPoint x y b) ps rs w (omega (arith, renewed-place (passed c))) (renew-good s (passed c) (withPoint x y b) raw) (renew-stands s (passed c) (withPoint x y b) ps rs w raw st))
+    (later (renewed (passed c)) (withPoint x y b) ps rs w (omega (arith, renewed-at (passed c))) (renew-good s (passed c) (withPoint x y b) raw) (renew-stands s (passed c) (withPoint x y b) ps rs w raw st))
 
 pub point-return : (s : List ℕ) (c : Cursor) (b : Taken) → Bytes s → Raw s c b → 0 < c .points → reading s c b .code ≡ 0 → Back s c → Found s c b
 unfolding afterPoint
@@ -144,7 +145,7 @@ point-return s c b bytes r some code later =
     let x = k .x in
     let y = k .y in
     let raw = point-raw s c b r some x y (k .fits) in
-    let f = later (renewed (passed c)) (withPoint x y b) (omega (arith, renewed-place (passed c))) (renew-good s (passed c) (withPoint x y b) raw) (rw (pointing-member c x y b (r .member)) at (k .on-with)) in
+    let f = later (renewed (passed c)) (withPoint x y b) (omega (arith, renewed-at (passed c))) (renew-good s (passed c) (withPoint x y b) raw) (rw (pointing-member c x y b (r .member)) at (k .on-with)) in
     let st = renew-back s (passed c) (withPoint x y b) (f .0) (f .1) (f .2) raw (f .3) in (
       k .p ∷ f .0,
       f .1,

@@ -20,12 +20,12 @@ use Rattle.sheet_standard.specs.Limits.{membersOf}
 use Rattle.sheet_standard.proofs.Standard.Left.{Left, leftOpen, BelowAt, Stands, Raw, Good, front, outcome, none-left}
 
 -- ---- a complete member gives way to the next
-up-to : (n : ℕ) → n ≤ upTo 65 n
-up-to n = by-equal (λ (m : ℕ). n ≤ m) (ltb n 65) _ _ (λ e. omega arith) (λ e. omega arith)
+up-to : (limit n : ℕ) → n ≤ upTo limit n
+up-to limit n = by-equal (λ (m : ℕ). n ≤ m) (ltb n limit) _ _ (λ e. omega arith) (λ e. omega arith)
 
 -- The place of the next member.
 abbrev nextMember : Cursor → Cursor
-nextMember c = headerToCome true (polygonsBegun 0 (naming (upTo 65 (c .member)) (c .members - 1) c))
+nextMember c = headerToCome true (polygonsBegun 0 (naming (upTo (c .limit) (c .member)) (c .members - 1) c))
 
 pub renew-good : (s : List ℕ) (c : Cursor) (b : Taken) → Raw s c b → Good s (renewed c) b
 unfolding renewed
@@ -35,7 +35,7 @@ renew-good s c b r = by-equal (λ (d : Cursor). Good s d b) (complete c && ltb 0
     record {
       raw = record {
         within = r .within;
-        member = omega (arith, r .member, up-to (c .member));
+        member = omega (arith, r .member, up-to (c .limit) (c .member));
         many = omega arith;
         total = r .total;
         own = λ f. (h .no-points, h .no-rings, h .no-parts, h .no-fourth, h .no-third, h .no-second, refl);
@@ -123,7 +123,3 @@ module _ (s : List ℕ) (c : Cursor) (b : Taken) (ps : List Pair) (rs : List (Li
       let z : c .polygons + 0 ≡ c .polygons = omega arith in
       rw (complete-open c w k (h .below), k .no-header, z, ← m .1, set-getD (b .numbers) (b .mark) 0) refl)
       (λ e. refl)
-
-pub renewed-place : (c : Cursor) → renewed c .at ≡ c .at
-unfolding renewed
-renewed-place c = by-equal (λ (d : Cursor). d .at ≡ c .at) (complete c && ltb 0 (c .members)) (nextMember c) c (λ e. refl) (λ e. refl)

@@ -178,7 +178,7 @@ unfolding stepAt
 at-geometry s c a = cond-no _ _ (le-ltb 0 (c .points) (omega arith)) ∙ cond-no _ _ (le-ltb 0 (c .rings) (omega arith)) ∙ cond-no _ _ (a .more)
 
 pub geometry-goes : (s : List ℕ) (c : Cursor) (b : Taken) (slot : Slot) (little : Bool) (kind n : ℕ) (rest : List ℕ) → AtGeometry c → slotOf c ≡ slot
-    → Heads s (c .at) little kind n rest → kindFault slot c kind ≡ 0 → countFits slot n ≡ true
+    → Heads s (c .at) little kind n rest → kindFault slot c kind ≡ 0 → countFits (c .limit) slot n ≡ true
     → reading s c b ≡ reading s (opened slot c little kind n) (opening slot c (opened slot c little kind n) kind n b)
 unfolding geometryAt taken
 geometry-goes s c b slot little kind n rest a e h f g =
@@ -209,7 +209,7 @@ pub record GeometryRead (s : List ℕ) (c : Cursor) (b : Taken) : Type 0 where
   pub nine : c .at + 9 ≤ length s
   pub bytes : drop (c .at) s ≡ heading little kind n ++ drop (c .at + 9) s
   pub allowed : kindFault (slotOf c) c kind ≡ 0
-  pub counts : countFits (slotOf c) n ≡ true
+  pub counts : countFits (c .limit) (slotOf c) n ≡ true
   pub on-with : reading s (opened (slotOf c) c little kind n) (opening (slotOf c) c (opened (slotOf c) c little kind n) kind n b) .code ≡ 0
 
 pub geometry-back : (s : List ℕ) (c : Cursor) (b : Taken) → Bytes s → AtGeometry c → reading s c b .code ≡ 0 → GeometryRead s c b
@@ -224,7 +224,7 @@ geometry-back s c b bytes a code =
     (λ e2. by-equal P (remains s (c .at) 5) _ _
     (λ e5. by-equal P (eqb (kindFault (slotOf c) c kind) 0) _ _
     (λ e0. by-equal P (remains s (c .at) 9) _ _
-    (λ e9. by-equal P (countFits (slotOf c) n) _ _
+    (λ e9. by-equal P (countFits (c .limit) (slotOf c) n) _ _
     (λ f k.
     let l = leb-true (c .at + 9) (length s) e9 in
     record {

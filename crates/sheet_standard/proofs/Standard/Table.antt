@@ -33,7 +33,7 @@ butLast (p ∷ q ∷ l) = p ∷ butLast (q ∷ l)
 abbrev pub cornersOf : List Pair → List ℤ
 cornersOf r = flatMap pointNumbers (map pointOf (butLast r))
 
--- A place in the table.
+-- A place in the table, with no more members after it than there may be.
 pub record InTable (s : List ℕ) (c : Cursor) : Type 0 where
   pub within : c .at ≤ length s
   pub member : c .member ≡ 1
@@ -42,6 +42,7 @@ pub record InTable (s : List ℕ) (c : Cursor) : Type 0 where
   pub no-third : c .third ≡ 0
   pub no-fourth : c .fourth ≡ 0
   pub total : c .total ≤ 4096
+  pub members : c .members < c .limit
 
 -- Points, rings and pieces of the table and members of the sheet stand at the place, with its counts, their bytes and within the limits.
 pub record TableStands (s : List ℕ) (c : Cursor) (b : Taken) (ps : List Pair) (rs : List (List Pair)) (gs ms : Geometries) : Type 0 where
@@ -65,10 +66,6 @@ tableOutcome b ps rs gs ms =
     map millimetres (b .numbers) ++ (cornersOf ps ++ (flatMap cornersOf rs ++ (flatMap triangleNumbers (each triangleOf gs) ++ (pos (count ms) ∷ membersOutcome ms))))
 
 -- ---- after the table
-pub renewed-not : (c : Cursor) → complete c ≡ false → renewed c ≡ c
-unfolding renewed
-renewed-not c e = rw e refl
-
 renewed-last : (c : Cursor) → c .members ≡ 0 → renewed c ≡ c
 unfolding renewed
 renewed-last c e = go (complete c) _
@@ -81,9 +78,9 @@ renewed-last c e = go (complete c) _
 abbrev firstMember : Cursor → Cursor
 firstMember c = headerToCome true (polygonsBegun 0 (naming 2 (c .members - 1) c))
 
-renewed-first : (c : Cursor) → complete c ≡ true → c .member ≡ 1 → 0 < c .members → renewed c ≡ firstMember c
+renewed-first : (c : Cursor) → complete c ≡ true → c .member ≡ 1 → 0 < c .members → c .members < c .limit → renewed c ≡ firstMember c
 unfolding renewed
-renewed-first c e m h = rw (e, lt-ltb 0 (c .members) h, m) refl
+renewed-first c e m h l = rw (e, lt-ltb 0 (c .members) h, m, lt-ltb 1 (c .limit) (omega arith)) refl
 
 -- The members and no more.
 abbrev only : Geometries → Left
@@ -119,7 +116,7 @@ module _ (s : List ℕ) (c : Cursor) (b : Taken) (t : InTable s c) (k : Complete
       let member : 1 ≤ c .member = let m = t .member in omega arith in
       rw (renewed-last c (sym n), end-goes s c b (k .no-points) (k .no-rings) member (complete-is c k) at-end) (refl, sym (append-nil (map millimetres (b .numbers))))
   after-through (g then ms) n e f l =
-      rw (renewed-first c (complete-is c k) (t .member) (omega arith))
+      rw (renewed-first c (complete-is c k) (t .member) (omega arith) (t .members))
       (members-through (suc (length s)) s (firstMember c) b [] [] (only (g then ms)) (omega arith) first-good (record {
         points-number = sym (k .no-points);
         rings-number = sym (k .no-rings);
@@ -154,7 +151,7 @@ module _ (s : List ℕ) (c : Cursor) (b : Taken) (t : InTable s c) (k : Complete
           record { ms = none; number = sym n; bytes = drop-of-length-le s {i = c .at} (omega arith); fit = tt; total = let m = t .total in omega arith }
       go (suc m) n =
           let some : 0 < c .members = omega arith in
-          let v = members-back (suc (length s)) s (firstMember c) b (omega arith) bytes first-good (rw (renewed-first c (complete-is c k) (t .member) some) at code) in
+          let v = members-back (suc (length s)) s (firstMember c) b (omega arith) bytes first-good (rw (renewed-first c (complete-is c k) (t .member) some (t .members)) at code) in
           let w = v .2 in
           let st = v .3 in
           let l = st .below in

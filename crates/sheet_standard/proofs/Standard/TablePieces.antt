@@ -52,7 +52,7 @@ piece-next : (c : Cursor) → c .member ≡ 1 → c .points ≡ 0 → c .rings �
 piece-next c m p q h = record { no-points = p; no-rings = q; more = rw (ne-eqb (c .member) 0 (λ e. absurd (omega arith)), not-complete c (λ k. let z = k .no-parts in omega arith)) refl }
 
 piece-in : (s : List ℕ) (c : Cursor) (n : ℕ) (little : Bool) → InTable s c → c .at + 9 ≤ length s → InTable s (pieceAt n little c)
-piece-in s c n little t h = record { within = h; member = t .member; no-header = t .no-header; no-second = t .no-second; no-third = t .no-third; no-fourth = t .no-fourth; total = t .total }
+piece-in s c n little t h = record { within = h; member = t .member; no-header = t .no-header; no-second = t .no-second; no-third = t .no-third; no-fourth = t .no-fourth; total = t .total; members = t .members }
 
 type-fits : (k : Kind) → typeOf k < 256 ^ 4
 type-fits Polygon = omega arith
@@ -76,13 +76,13 @@ allowed-piece c k = go (eqb k 17) (eqb k 3) refl refl
     go false true ep eq h = (Polygon, sym (eqb-true k 3 eq), inr refl)
     go false false ep eq h = absurd (omega arith)
 
-one-count : (n : ℕ) → n ≡ 1 → countFits Piece n ≡ true
+one-count : (limit n : ℕ) → n ≡ 1 → countFits limit Piece n ≡ true
 unfolding countFits
-one-count n e = eq-eqb n 1 e
+one-count limit n e = eq-eqb n 1 e
 
-count-one : (n : ℕ) → countFits Piece n ≡ true → n ≡ 1
+count-one : (limit n : ℕ) → countFits limit Piece n ≡ true → n ≡ 1
 unfolding countFits
-count-one n e = eqb-true n 1 e
+count-one limit n e = eqb-true n 1 e
 
 -- The numbers of a piece's ring are its triangle's.
 triangle-is : (little : Bool) (kind : Kind) (rs : List (List Pair)) → length rs ≡ 1 → All (RingFits 4 4) rs → flatMap cornersOf rs ≡ triangleNumbers (triangleOf (ringed little kind rs))
@@ -120,7 +120,7 @@ table-piece-through s c b (ringed little kind rs) gs ms t h later =
     let q = heads s (c .at) little (typeOf kind) n _ (t .within) (type-fits kind) word
     (rw (heading-is little kind n) at (h .bytes) ∙ regroup (heading little (typeOf kind) n) (flatMap (encodeRing little) rs) (encodeAll gs) (encodeAll ms)) in
     rw (
-      geometry-goes s c b Piece little (typeOf kind) n _ (piece-next c (t .member) (sym (h .points-number)) (sym (h .rings-number)) some) (piece-slot c (t .member) some) q (piece-allowed c kind (f .0)) (one-count n one),
+      geometry-goes s c b Piece little (typeOf kind) n _ (piece-next c (t .member) (sym (h .points-number)) (sym (h .rings-number)) some) (piece-slot c (t .member) some) q (piece-allowed c kind (f .0)) (one-count (c .limit) n one),
       piece-opened c little (typeOf kind) n,
       piece-taken c (pieceAt n little c) (typeOf kind) n b,
       ← piece-outcome b little kind rs gs ms one (f .2),
@@ -165,7 +165,7 @@ table-piece-return s c b bytes t p q some code later =
     let k = geometry-back s c b bytes (piece-next c (t .member) p q some) code in
     let slot = piece-slot c (t .member) some in
     let n = k .n in
-    let one : n ≡ 1 = count-one n (rw slot at (k .counts)) in
+    let one : n ≡ 1 = count-one (c .limit) n (rw slot at (k .counts)) in
     let a = allowed-piece c (k .kind) (rw slot at (k .allowed)) in
     let v = later (pieceAt n (k .little) c) b (omega arith) (piece-in s c n (k .little) t (k .nine)) (omega arith) (rw (slot, piece-opened c (k .little) (k .kind) n, piece-taken c (pieceAt n (k .little) c) (k .kind) n b) at (k .on-with)) in
     let none-open : v .0 ≡ [] = no-list (v .0) (let z = v .4 .points-number in omega arith) in

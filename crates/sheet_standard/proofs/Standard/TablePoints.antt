@@ -17,12 +17,13 @@ use Rattle.wkb.proofs.Complete.{Complete, not-complete}
 use Rattle.sheet_form.specs.Numbers.{triangleNumbers}
 use Rattle.sheet.specs.Reading.{Taken, held, push, noted, lastOfTable, pointing}
 use Rattle.sheet.specs.Going.{reading}
+use Rattle.sheet.proofs.Rows.{renewed-stays}
 use Rattle.sheet_standard.specs.Limits.{numberOf, triangleOf, each}
 use Rattle.sheet_standard.proofs.Standard.Fields.{Bytes, Points, points}
 use Rattle.sheet_standard.proofs.Standard.Steps.{point-goes, PointRead, point-back}
 use Rattle.sheet_standard.proofs.Standard.Left.{Closes, Ends, millimetres-count, no-list}
 use Rattle.sheet_standard.proofs.Standard.Points.{passed, withPoint, number-is, closes-next, closes-back}
-use Rattle.sheet_standard.proofs.Standard.Table.{cornersOf, InTable, TableStands, membersOutcome, tableOutcome, renewed-not, after-through, after-back}
+use Rattle.sheet_standard.proofs.Standard.Table.{cornersOf, InTable, TableStands, membersOutcome, tableOutcome, after-through, after-back}
 
 -- Something of the table is still to come.
 abbrev pub Open : Cursor → Type 0
@@ -67,11 +68,11 @@ unfolding pointing
 pointing-last c x y b m k p r = rw (eq-eqb (c .member) 1 m, eq-eqb (c .points) 1 k, eq-eqb (c .parts) 0 p, eq-eqb (c .rings) 0 r) refl
 
 passed-in : (s : List ℕ) (c : Cursor) → InTable s c → c .at + 16 ≤ length s → InTable s (passed c)
-passed-in s c t h = record { within = h; member = t .member; no-header = t .no-header; no-second = t .no-second; no-third = t .no-third; no-fourth = t .no-fourth; total = t .total }
+passed-in s c t h = record { within = h; member = t .member; no-header = t .no-header; no-second = t .no-second; no-third = t .no-third; no-fourth = t .no-fourth; total = t .total; members = t .members }
 
 -- Where more of the table comes, the place stays in it.
 passed-stays : (c : Cursor) → 0 < (c .points - 1) + (c .rings + c .parts) → renewed (passed c) ≡ passed c
-passed-stays c h = renewed-not (passed c) (not-complete (passed c) (λ k. let p = k .no-points in let r = k .no-rings in let q = k .no-parts in omega arith))
+passed-stays c h = renewed-stays (passed c) (not-complete (passed c) (λ k. let p = k .no-points in let r = k .no-rings in let q = k .no-parts in omega arith))
 
 pushed-point : (l : List ℕ) (x y : ℕ) (rest : List ℤ) → map millimetres ((l ++ x ∷ []) ++ y ∷ []) ++ rest ≡ map millimetres l ++ (millimetres x ∷ millimetres y ∷ rest)
 pushed-point l x y rest =

@@ -45,7 +45,7 @@ unfolding ringFits
 allowed-ring c n m e = eqb-true n 4 (rw (eq-eqb (c .member) 1 m) at e)
 
 counted-in : (s : List ℕ) (c : Cursor) (n : ℕ) → InTable s c → c .at + 4 ≤ length s → InTable s (countedAt n c)
-counted-in s c n t h = record { within = h; member = t .member; no-header = t .no-header; no-second = t .no-second; no-third = t .no-third; no-fourth = t .no-fourth; total = t .total }
+counted-in s c n t h = record { within = h; member = t .member; no-header = t .no-header; no-second = t .no-second; no-third = t .no-third; no-fourth = t .no-fourth; total = t .total; members = t .members }
 
 ring-closes : (b : Taken) (r : List Pair) → RingFits 4 4 r → Closes (firstToCome b) r
 ring-closes b [] f = tt

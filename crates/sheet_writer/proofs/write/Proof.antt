@@ -49,7 +49,7 @@ returns-4 : tie.Need-returns-4
 returns-4 c = let w = seen (c .before .before) in too-long _ _ (w .sheet) (w .is) (omega (arith, w .to-is, c .if4 .taken))
 
 mul-result : tie.Need-mul-result
-mul-result c = let w = seen (good (room c)) in omega (arith, w .to-is, written-small (w .sheet) (given-fits _ (w .sheet) (w .is)))
+mul-result c = let w = seen (good (room c)) in omega (arith, w .to-is, written-small _ (w .sheet) (given-fits _ _ (w .sheet) (w .is)))
 
 returns-5 : tie.Need-returns-5
 returns-5 c =

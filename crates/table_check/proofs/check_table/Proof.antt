@@ -1,6 +1,6 @@
 -- `table_check::check_table` meets its contract: the rules in their order, by the items found. Assumes nothing.
 use mathlib.Core.Path.{_≡_, sym, _∙_, ap, subst}
-use mathlib.Core.Bool.{Bool, cond}
+use mathlib.Core.Bool.{Bool}
 use mathlib.Core.List.{List, []}
 use Prim.Native.Nat.{ℕ, _≤_}
 use native.Mathlib.Omega.{arith}
@@ -9,8 +9,10 @@ use denote.Ref.{now}
 use lib.ListN.{length, take}
 use lib.Seq.{length-take-le}
 use Rattle.whole.proofs.Tests.{turned-off, turned-on}
-use Rattle.plane.specs.Points.{Triangle}
-use Rattle.table.specs.Table.{passed, refused, firstFault, flat, repeats, checkTable}
+use Rattle.plane.specs.Points.{Edge, Triangle}
+use Rattle.plane.specs.Keys.{pairs}
+use Rattle.lent.specs.Stages.{refused, needing}
+use Rattle.table.specs.Table.{firstFault, flat, repeats, checkTable}
 use Rattle.table.specs.Sides.{trianglesOf, itemOf}
 use Rattle.table.proofs.Shares.{length-triangles}
 use Rattle.whole_order.specs.Ascending.{ascending}
@@ -19,7 +21,7 @@ use Rattle.whole_order.proofs.Moves.{laid-front}
 use Rattle.table_count.specs.Indexed.{Indexed}
 use Rattle.table_check.specs.declared.Check.{Check}
 use Rattle.table_check.specs.declared.Check.the-variants.{Passed, Refused}
-use Rattle.table_check.proofs.Faults.{item-within, sides-once, check-flat, check-repeated, check-framed}
+use Rattle.table_check.proofs.Faults.{item-within, sides-once, check-flat, check-repeated, check-outlined}
 use Rattle.table_check.proofs.check_table.Statement.{statement}
 use Rattle.table_check.proofs.check_table.Tie as tie
 
@@ -29,9 +31,9 @@ not-passed e = let z : _≡_ {A = ℕ} 0 1 = cc e in omega arith
 passed-same : {m n : ℕ} → _≡_ {A = Check} (Passed m) (Passed n) → m ≡ n
 passed-same e = cc e
 
--- ---- places: the entry of the function, and the calls of `sort`, `index_sides` and `framed`
+-- ---- places: the entry of the function, and the calls of `sort`, `index_sides` and `outlined`
 abbrev start : tie.After-flat-triangle → tie.Start
-start c = c .before .before .before .before .before
+start c = c .before .before .before .before .before .before .before
 
 abbrev passing-A : tie.After-sort → tie.Else1
 passing-A c = c .before .before
@@ -42,7 +44,7 @@ sort-call c = c .before .before .before .before .before .before
 abbrev index-call : tie.Else2 → tie.After-index-sides
 index-call c = c .before .before .before .before .before
 
-abbrev passing-B : tie.After-framed → tie.Else2
+abbrev passing-B : tie.After-outlined → tie.Else2
 passing-B c = c .before .before .before .before
 
 abbrev entry : tie.After-sort → tie.Start
@@ -51,12 +53,12 @@ entry c = start (passing-A c .before)
 abbrev table : tie.Start → List Triangle
 table o = trianglesOf (now (o .args .keys))
 
--- The table has 1 to 1,024 triangles.
-sized : (o : tie.Start) → (1 ≤ length (table o)) × (length (table o) ≤ 1024)
-sized o =
-    let p = o .pre .0 .1 in
-    let l = length-triangles (now (o .args .keys)) (o .pre .0 .0) (p .three) in
-    (omega (arith, p .some), omega (arith, p .few))
+abbrev outline : tie.Start → List Edge
+outline o = pairs (now (o .args .from)) (now (o .args .to))
+
+-- The table has at most 1,024 triangles.
+sized : (o : tie.Start) → length (table o) ≤ 1024
+sized o = let p = o .pre .0 .1 in omega (arith, p .few, length-triangles (now (o .args .keys)) (o .pre .0 .0) (p .three))
 
 -- The items found, and that there is none where the check goes on.
 flat-item : (c : tie.After-flat-triangle) → c .flat-triangle .result ≡ itemOf (firstFault flat [] (table (start c)))
@@ -76,7 +78,7 @@ abbrev ordered : tie.After-sort → List ℕ
 ordered c = c .sort .last .1 .0
 
 room : (c : tie.After-sort) → c .sort .result ≤ length (ordered c)
-room c = omega (arith, c .sort .kept .1 .0, c .sort .ensures .0, length-ascending (now (entry c .args .keys)), entry c .pre .1)
+room c = omega (arith, c .sort .kept .1 .0, c .sort .ensures .0, length-ascending (now (entry c .args .keys)), entry c .pre .2)
 
 front : (c : tie.After-sort) → take (c .sort .result) (ordered c) ≡ ascending (now (entry c .args .keys))
 front c = laid-front _ (ordered c) (now (entry c .args .ordered)) (c .sort .result) (c .sort .ensures .0) (c .sort .ensures .1)
@@ -86,48 +88,48 @@ abbrev IndexedAt : tie.After-index-sides → ℕ → Type 0
 IndexedAt c n = let s = sort-call c in Indexed (now (entry s .args .keys)) (take n (ordered s)) (c .index-sides .last .1 .1 .0) (c .index-sides .last .1 .1 .1 .0)
 
 indexed : (c : tie.Else2) → IndexedAt (index-call c) (sort-call (index-call c) .sort .result)
-indexed c = let d = index-call c in d .index-sides .ensures .1 (sides-once (table (entry (sort-call d))) (no-flat (passing-A (sort-call d))) (no-repeated c))
+indexed c = let d = index-call c in d .index-sides .ensures .1 (sides-once (outline (entry (sort-call d))) (table (entry (sort-call d))) (no-flat (passing-A (sort-call d))) (no-repeated c))
 
--- What `framed` tells is rule C.
-by-frame : (c : tie.After-framed) (b : Bool) → c .framed .result ≡ b → cond b passed (refused 12 0) ≡ checkTable (table (entry (sort-call (index-call (passing-B c)))))
-by-frame c b e =
+-- What `outlined` tells is rule C.
+by-outline : (c : tie.After-outlined) (b : Bool) → c .outlined .result ≡ b → needing b 12 0 ≡ let o = entry (sort-call (index-call (passing-B c))) in checkTable (outline o) (table o)
+by-outline c b e =
     let d = passing-B c in
     let s = sort-call (index-call d) in
-    sym (ap (λ b. cond b passed (refused 12 0)) e) ∙ check-framed (table (entry s)) (no-flat (passing-A s)) (no-repeated d) (c .framed .result) (c .framed .ensures)
+    sym (ap (λ b. needing b 12 0) e) ∙ check-outlined (outline (entry s)) (table (entry s)) (no-flat (passing-A s)) (no-repeated d) (c .outlined .result) (c .outlined .ensures)
 
 index-sides-requires : tie.Need-index-sides-requires
 index-sides-requires c κs =
     let s = c .before .before .before .before .before in
     let p = entry s .pre in
-    (p .0 .1 .in-range, (p .0 .0, p .0 .1 .three), omega (arith, p .0 .1 .three, p .0 .1 .few), front s, p .2, p .3)
+    (p .0 .1 .in-range, (p .0 .0, p .0 .1 .three), omega (arith, p .0 .1 .three, p .0 .1 .few), front s, p .3, p .4)
 
-framed-requires : tie.Need-framed-requires
-framed-requires c κs =
+outlined-requires : tie.Need-outlined-requires
+outlined-requires c κs =
     let d = c .before .before .before in
     let o = entry (sort-call (index-call d)) in
-    (indexed d, o .pre .0 .1 .in-range, sized o .0, omega (arith, o .pre .0 .1 .three, o .pre .0 .1 .few))
+    (indexed d, o .pre .1, omega (arith, o .pre .0 .1 .three, o .pre .0 .1 .few))
 
 returns : tie.Need-returns
 returns c =
     let d = c .before in
-    record { is = ap (refused 10) (flat-item d) ∙ check-flat (table (start d)) (λ e. c .if1 .taken (flat-item d ∙ e)); indexed = λ n e. absurd (not-passed e) }
+    record { is = ap (refused 10) (flat-item d) ∙ check-flat (outline (start d)) (table (start d)) (λ e. c .if1 .taken (flat-item d ∙ e)); indexed = λ n e. absurd (not-passed e) }
 
 returns-2 : tie.Need-returns-2
 returns-2 c =
     let d = c .before .before .before .before .before in
     let s = sort-call d in
     let r = repeated-item d in
-    record { is = ap (refused 11) r ∙ check-repeated (table (entry s)) (no-flat (passing-A s)) (λ e. c .if2 .taken (r ∙ e)); indexed = λ n e. absurd (not-passed e) }
+    record { is = ap (refused 11) r ∙ check-repeated (outline (entry s)) (table (entry s)) (no-flat (passing-A s)) (λ e. c .if2 .taken (r ∙ e)); indexed = λ n e. absurd (not-passed e) }
 
 returns-3 : tie.Need-returns-3
-returns-3 c = record { is = by-frame (c .before) _ (turned-off (c .before .framed .result) (c .if3 .taken)); indexed = λ n e. absurd (not-passed e) }
+returns-3 c = record { is = by-outline (c .before) _ (turned-off (c .before .outlined .result) (c .if3 .taken)); indexed = λ n e. absurd (not-passed e) }
 
 returns-4 : tie.Need-returns-4
 returns-4 c =
     let d = passing-B (c .before) in
     let s = sort-call (index-call d) in
     record {
-      is = by-frame (c .before) _ (turned-on (c .before .framed .result) (c .if3 .left));
+      is = by-outline (c .before) _ (turned-on (c .before .outlined .result) (c .if3 .left));
       indexed = λ n e. subst (λ m. (m ≤ length (ordered s)) × IndexedAt (index-call d) m) (passed-same e) (room s, indexed d);
     }
 
@@ -149,7 +151,7 @@ check-table-spec =
     returns-2
     (λ c. room (sort-call (index-call c)))
     (λ c. sym (length-take-le _ _ (room (sort-call (index-call (c .before))))))
-    framed-requires
+    outlined-requires
     (λ c. search needs)
     (λ c. search needs)
     (λ c. search needs)

@@ -102,8 +102,8 @@ module _ (d : tie.After-count-fits) where
   abbrev D3 : tie.Else3
   D3 = d .before .before .before .before .before .before .before .before
 
-  pub limits : d .count-fits .result ≡ countFits (slotOf (C3 D3)) (N3 D3)
-  limits = d .count-fits .ensures ∙ ap₂ countFits (stood (d .before .before .before .before .before .before)) (count (d .before))
+  pub limits : d .count-fits .result ≡ countFits (C3 D3 .limit) (slotOf (C3 D3)) (N3 D3)
+  limits = d .count-fits .ensures ∙ ap₂ (countFits (C3 D3 .limit)) (stood (d .before .before .before .before .before .before)) (count (d .before))
 
 remain-requires : tie.Need-remain-requires
 remain-requires c κs = search needs
@@ -217,7 +217,7 @@ returns-6 c =
 opened-requires : tie.Need-opened-requires
 opened-requires c κs =
     let n = count-fits (c .before .before .before) in
-    (omega arith, count-some _ _ (sym (c .before .count-fits .ensures) ∙ not-false _ (c .if6 .left)))
+    (omega arith, count-some _ _ _ (sym (c .before .count-fits .ensures) ∙ not-false _ (c .if6 .left)))
 
 returns-7 : tie.Need-returns-7
 unfolding geometryAt

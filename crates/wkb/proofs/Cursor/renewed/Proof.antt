@@ -36,7 +36,7 @@ returns-3 c =
     simp (
       sym (c .before .before .before .before .before .before .before .is-complete .ensures) ∙ not-false _ (c .before .before .before .before .before .before .if1 .left),
       lt-ltb 0 (a .members) (omega (arith, c .before .before .before .before .if2 .left)),
-      lt-ltb _ 65 (c .before .if3 .taken),
+      lt-ltb _ (a .limit) (c .before .if3 .taken),
     )
 
 returns-4 : tie.Need-returns-4
@@ -46,7 +46,7 @@ returns-4 c =
     simp (
       sym (c .before .before .before .before .before .before .is-complete .ensures) ∙ not-false _ (c .before .before .before .before .before .if1 .left),
       lt-ltb 0 (a .members) (omega (arith, c .before .before .before .if2 .left)),
-      le-ltb _ 65 (c .if3 .left),
+      le-ltb _ (a .limit) (c .if3 .left),
     )
 
 pub renewed-spec : {M : Type 1} → statement M

@@ -1,0 +1,108 @@
+-- `judged::judge_in` meets its contract: the table is checked, and then the polygons are judged. Assumes nothing.
+use mathlib.Core.Path.{_≡_, refl, sym, _∙_, ap, subst}
+use mathlib.Core.List.{List}
+use Prim.Native.Nat.{ℕ, _*_, _≤_}
+use native.Mathlib.Omega.{arith}
+use borrow.Author.Needs.{needs}
+use denote.Ref.{now}
+use lib.ListN.{length, take}
+use lib.Seq.{length-take-le}
+use Rattle.plane.specs.Boundaries.{sidesOf}
+use Rattle.lent.specs.Stages.{value}
+use Rattle.table.specs.Table.{frameEdges, RuleA}
+use Rattle.table.specs.Sides.{trianglesOf}
+use Rattle.table.specs.Opposites.{opposites}
+use Rattle.table.proofs.Rules.{passes}
+use Rattle.table_count.specs.Indexed.{Indexed}
+use Rattle.table_check.specs.Checking.{checkedOf}
+use Rattle.sheet_form.specs.Numbers.{Sheet, members}
+use Rattle.sheet.specs.Held.{SheetHeld}
+use Rattle.judged_table.specs.Checked.{TableChecked}
+use Rattle.judged_sets.specs.Owning.{OneEach}
+use Rattle.judged.proofs.Stages.{checked}
+use Rattle.judged.proofs.Judging.{table-refused, polygons-judged}
+use Rattle.judged.proofs.judge_in.Statement.{statement}
+use Rattle.judged.proofs.judge_in.Tie as tie
+
+-- ---- places: the entry of the function, the call of `check`, and the way on where the table passes
+abbrev start : tie.After-check → tie.Start
+start c = c .before .before .before .before .before .before .before .before .before .before .before
+
+abbrev check-call : tie.After-k → tie.After-check
+check-call c = c .before .before .before .before .before .before .before .before .before .before
+
+-- As many corners as the sheet's table has.
+corners : (o : tie.Start) (n : Sheet) → length (n .table) ≡ length (now (o .args .sets)) → 3 * length (n .table) ≡ length (now (o .args .keys))
+corners o n e = ap (λ t. 3 * t) e ∙ sym (o .pre .1 .keys)
+
+-- What `check` tells of a sheet that is held.
+abbrev keys : tie.After-check → List ℕ
+keys c = c .check .last .1 .0
+
+told : (c : tie.After-check) (n : Sheet) → SheetHeld members n (now (start c .args .numbers)) → length (n .table) ≡ length (now (start c .args .sets))
+    → let l = c .check .last .1 in TableChecked n (l .0) (l .1 .0) (l .1 .1 .0) (l .1 .1 .1 .0) (c .check .result)
+told c n held e = c .check .ensures members n held (corners (start c) n e)
+
+passed : (c : tie.After-k) (n : Sheet) → SheetHeld members n (now (start (check-call c) .args .numbers)) → length (n .table) ≡ length (now (start (check-call c) .args .sets)) → value tt ≡ checked n
+passed c n held e = sym (ap checkedOf (c .k .given .1)) ∙ told (check-call c) n held e .is
+
+rule-A : (c : tie.After-k) (n : Sheet) → SheetHeld members n (now (start (check-call c) .args .numbers)) → length (n .table) ≡ length (now (start (check-call c) .args .sets)) → RuleA (trianglesOf (keys (check-call c)))
+rule-A c n held e = subst RuleA (sym (told (check-call c) n held e .laid)) (passes (frameEdges (n .table)) (n .table) .0 (sym (passed c n held e)) .0)
+
+check-requires : tie.Need-check-requires
+check-requires c κs =
+    let o = c .before .before .before .before .before .before .before .before .before .before in
+    let p = o .pre .0 in
+    let l = o .pre .1 in
+    ((members, p .0, p .1, corners o (p .0) (p .2)), record { keys = refl; ordered = l .ordered ∙ sym (l .keys); index = l .index ∙ sym (l .keys); opposite = l .opposite ∙ sym (l .keys) })
+
+-- The index of the corners, for the sheet that the caller tells of.
+indexed : (c : tie.After-k) → let l = check-call c .check .last .1 in (c .k .given .0 .0 ≤ length (l .1 .0)) × Indexed (l .0) (take (c .k .given .0 .0) (l .1 .0)) (l .1 .1 .0) (l .1 .1 .1 .0)
+indexed c = let d = check-call c in let p = start d .pre .0 in told d (p .0) (p .1) (p .2) .indexed (c .k .given .0 .0) (c .k .given .1)
+
+judge-all-requires : tie.Need-judge-all-requires
+judge-all-requires c κs =
+    let k = c .before .before .before .before .before in
+    let d = check-call k in
+    let p = start d .pre .0 in
+    let t = told d (p .0) (p .1) (p .2) in
+    ((keys d, indexed k .1, rule-A k (p .0) (p .1) (p .2), sym (ap length (t .laid) ∙ p .2), omega (arith, ap length (t .laid), p .1 .few)), (p .0, p .1, p .2))
+
+returns : tie.Need-returns
+returns c = λ n held e.
+    let r = c .before .code .given in
+    let d = c .before .before .before .before .before .before .before .before .before .before .before in
+    table-refused n (r .0 .0) (r .0 .1 .0) _ _ (sym (ap checkedOf (r .1)) ∙ told d n held e .is)
+
+returns-2 : tie.Need-returns-2
+returns-2 c = λ n held e.
+    let a = c .before .before in
+    let j = a .judge-all in
+    let k = a .before .before .before .before .before .before in
+    let d = check-call k in
+    let t = told d n held e in
+    let x = t .indexed (k .k .given .0 .0) (k .k .given .1) in
+    polygons-judged n (j .result) _ _ (passed k n held e) (j .ensures .1 (keys d) n (x .1) (rule-A k n held e) held (t .laid) (sym (ap length (t .laid) ∙ e))) (subst (OneEach (j .result)) (sym e) (j .ensures .0))
+    (d .check .kept .1 .1 .1 .1 .0 ∙ start d .pre .1 .opposite ∙ ap (λ t. 3 * t) (sym e)) (x .1 .opposite-is ∙ ap (λ t. opposites (sidesOf t)) (t .laid))
+
+pub judge-in-spec : {M : Type 1} → statement M
+judge-in-spec =
+    tie.close
+    (tie.spec
+    check-requires
+    (λ c. search needs)
+    (λ c. search needs)
+    (λ c. indexed (c .before) .0)
+    (λ c. sym (length-take-le _ _ (indexed (c .before .before) .0)))
+    judge-all-requires
+    (λ c. search needs)
+    (λ c. search needs)
+    (λ c. search needs)
+    (λ c. search needs)
+    returns
+    (λ c. search needs)
+    (λ c. search needs)
+    (λ c. search needs)
+    (λ c. search needs)
+    (λ c. search needs)
+    returns-2)

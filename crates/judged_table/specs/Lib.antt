@@ -1,0 +1,2 @@
+-- The check of a held sheet's table.
+pub mod Checked

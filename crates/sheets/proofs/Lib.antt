@@ -1,3 +1,0 @@
--- The laws that the entries' proofs share.
-pub mod Room
-pub mod Judged

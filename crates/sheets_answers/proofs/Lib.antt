@@ -1,0 +1,2 @@
+-- The laws of the work arrays of the general functions.
+pub mod Room

@@ -1,0 +1,55 @@
+-- `sheets_answers::go_on` meets its contract, by what is wanted. Assumes nothing.
+use mathlib.Core.Path.{_≡_, sym, _∙_, ap, subst}
+use borrow.Author.Needs.{needs}
+use denote.Ref.{now}
+use Rattle.lent.specs.Answered.{Answered}
+use Rattle.judged.specs.Judged.{Judged}
+use Rattle.judged.proofs.Standing.{few, pairs}
+use Rattle.outcomes.specs.Entries.{goesOn}
+use Rattle.outcomes.proofs.Judged.{owner-sets-on, owners-on}
+use Rattle.sheets_answers.proofs.go_on.Statement.{statement}
+use Rattle.sheets_answers.proofs.go_on.Tie as tie
+
+owner-sets-requires : tie.Need-owner-sets-requires
+owner-sets-requires c κs = few (c .before .before .before .before .before .before .before .pre .1)
+
+owners-requires : tie.Need-owners-requires
+owners-requires c κs = let w = c .before .before .before .before .before .before .before .pre .1 in (pairs w, few w)
+
+returns : tie.Need-returns
+returns c = λ j w.
+    let r = c .before .before .owner-sets in
+    let e = c .before .before .before .before in
+    let a = e .before .before .before .before .before .before .args in
+    subst (λ o. Answered o (now (a .out)) (r .result) (r .last .1 .0)) (owner-sets-on w ∙ sym (ap (λ x. goesOn x j) (e .enum-told .given .1))) (r .ensures)
+
+returns-2 : tie.Need-returns-2
+returns-2 c = λ j w.
+    let r = c .before .before .owners in
+    let e = c .before .before .before .before in
+    let a = e .before .before .before .before .before .before .args in
+    subst (λ o. Answered o (now (a .out)) (r .result) (r .last .1 .1 .0)) (owners-on w ∙ sym (ap (λ x. goesOn x j) (e .enum-told2 .given .1))) (r .ensures)
+
+returns-3 : tie.Need-returns-3
+returns-3 c = λ j w.
+    let r = c .before .before .boundary in
+    let e = c .before .before .before .before .before in
+    let a = e .before .before .before .before .before .before .args in
+    subst (λ o. Answered o (now (a .out)) (r .result) (r .last .1 .1 .1 .1 .0)) (sym (ap (λ x. goesOn x j) (e .wanted .given .1))) (r .ensures j w)
+
+pub go-on-spec : {M : Type 1} → statement M
+go-on-spec =
+    tie.close
+    (tie.spec
+    (λ c. search needs)
+    owner-sets-requires
+    (λ c. search needs)
+    owners-requires
+    (λ c. search needs)
+    (λ c κs. search needs)
+    (λ c. search needs)
+    returns
+    (λ c. search needs)
+    returns-2
+    (λ c. search needs)
+    returns-3)
