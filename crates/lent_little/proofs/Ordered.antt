@@ -144,9 +144,6 @@ bytes-number (b ∷ l) h =
 pub length-bytesOf : (little : Bool) (n v : ℕ) → length (bytesOf little n v) ≡ n
 length-bytesOf little n v = ordered-length little (bytes n v) ∙ length-bytes n v
 
-pub bytesOf-below : (little : Bool) (n v : ℕ) → All (λ b. b < 256) (bytesOf little n v)
-bytesOf-below little n v = ordered-all little (λ b. b < 256) (bytes n v) (bytes-below n v)
-
 pub numberOf-below : (little : Bool) (l : List ℕ) → All (λ b. b < 256) l → numberOf little l < 256 ^ length l
 numberOf-below little l h = rw (ordered-length little l) at (number-below (ordered little l) (ordered-all little (λ b. b < 256) l h))
 

@@ -34,12 +34,7 @@ pub half : (w n : ℕ) → n < 2 ^ suc w → n / 2 < 2 ^ w
 half w n h = let e = pow-suc 2 w in omega arith
 
 pub even : (n : ℕ) → (n % 2 ≡ 1 → ⊥) → n % 2 ≡ 0
-even n f = go (n % 2) (omega arith) f
-  where
-    go : (d : ℕ) → d < 2 → (d ≡ 1 → ⊥) → d ≡ 0
-    go zero h f = refl
-    go (suc zero) h f = absurd (f refl)
-    go (suc (suc d)) h f = absurd (omega arith)
+even n f = omega arith
 
 -- A bit put before those of a number is its lowest, and the number stands behind it.
 pub lowest : (b : Bool) (x : ℕ) → (bit b + 2 * x) % 2 ≡ bit b

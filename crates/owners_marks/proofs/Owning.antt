@@ -5,7 +5,6 @@ use mathlib.Core.Bool.{Bool, true, false}
 use mathlib.Core.List.{List, [], _∷_, _++_}
 use Prim.Native.Nat.{ℕ, zero, suc, _+_, _*_, _/_, _%_, _^_, _<_}
 use native.Mathlib.Nat.{pow-suc}
-use native.Mathlib.Numerals.{add-one}
 use native.Mathlib.Omega.{arith}
 use lib.ListN.{length, getD, set, take, drop, replicate, getD-replicate}
 use Rattle.whole.specs.Sums.{All, bit}
@@ -14,24 +13,6 @@ use Rattle.owners_marks.proofs.Bits.{digit-zero, digit-suc, digit-none,
 use Rattle.owners_marks.proofs.Owners.{length-owner-sets}
 
 -- ---- the marks of one more polygon
-fits : (b : Bool) (k x : ℕ) → x < 2 ^ k → x + bit b * 2 ^ k < 2 ^ (k + 1)
-fits b k x h = rw add-one (let e = pow-suc 2 k in go b (omega arith))
-  where
-    go : (b : Bool) → x + 2 ^ k < 2 ^ suc k → x + bit b * 2 ^ k < 2 ^ suc k
-    go true h = omega arith
-    go false h = omega arith
-
-pub marked-below : (k : ℕ) (s : List Bool) (l : List ℕ) → All (λ x. x < 2 ^ k) l → All (λ x. x < 2 ^ (k + 1)) (marked k s l)
-marked-below k [] l h = tt
-marked-below k (b ∷ s) [] h = tt
-marked-below k (b ∷ s) (x ∷ l) h = (fits b k x (h .0), marked-below k s l (h .1))
-
-pub length-marked : (k : ℕ) (s : List Bool) (l : List ℕ) → length s ≡ length l → length (marked k s l) ≡ length l
-length-marked k [] [] h = refl
-length-marked k [] (x ∷ l) h = absurd (omega arith)
-length-marked k (b ∷ s) [] h = refl
-length-marked k (b ∷ s) (x ∷ l) h = ap suc (length-marked k s l (omega arith))
-
 -- What stands at place t where the first t sets have their marks, and the mark put on it.
 pub next-set : (k t : ℕ) (s : List Bool) (l : List ℕ) → t < length s → t < length l → getD (marked k (take t s) l ++ drop t l) t 0 ≡ getD l t 0
 next-set k t [] l h w = absurd (omega arith)

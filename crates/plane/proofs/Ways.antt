@@ -58,20 +58,13 @@ module _ (e : Edge) (length : pos 0 <ℤ along e (e .to)) where
       let o = inner-order e length a b p q k c t in
       inside-intro c (inner-on e length a b p q k c t) (≤-<-trans (pos 0) (along e a) (along e c) h (o .0)) (<ℤ-≤ℤ-trans (o .1) j)
 
--- What is strictly inside one of the two parts into which a point cuts an edge is strictly inside the edge.
+-- What is strictly inside the first of the two parts into which a point cuts an edge is strictly inside the edge.
 pub between-first : (c d u v : Point) → T (between c (u ⟶ v)) → T (between d (u ⟶ c)) → T (between d (u ⟶ v))
 between-first c d u v t s =
     let e = u ⟶ v in
     let l = long e (between-apart c u v t) in
     let o = inside-order e l c t in
     within e l u c d (on-from e) (inside-on e l c t) (rw (along-from e) (≤ℤ-refl (pos 0))) (rw (along-from e) (o .0)) (lt-le (along e c) (along e v) (o .1)) s
-
-pub between-second : (c d u v : Point) → T (between c (u ⟶ v)) → T (between d (c ⟶ v)) → T (between d (u ⟶ v))
-between-second c d u v t s =
-    let e = u ⟶ v in
-    let l = long e (between-apart c u v t) in
-    let o = inside-order e l c t in
-    within e l c v d (inside-on e l c t) (on-to e) (lt-le (pos 0) (along e c) (o .0)) (o .1) (≤ℤ-refl (along e v)) s
 
 -- A point strictly between differs from both ends.
 pub between-ends : (c u v : Point) → T (between c (u ⟶ v)) → (u ≡ c → ⊥) × (c ≡ v → ⊥)

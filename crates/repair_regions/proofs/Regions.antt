@@ -19,11 +19,6 @@ pub length-from : (i n : ℕ) → length (from i n) ≡ n
 length-from i zero = refl
 length-from i (suc n) = ap suc (length-from (suc i) n)
 
-pub from-at : (i n j d : ℕ) → j < n → getD (from i n) j d ≡ i + j
-from-at i zero j d h = absurd (omega arith)
-from-at i (suc n) zero d h = omega arith
-from-at i (suc n) (suc j) d h = omega (arith, from-at (suc i) n j d (omega arith))
-
 module _ {A : Type 0} (f : ℕ → A) where
   pub length-map-from : (i n : ℕ) → length (map f (from i n)) ≡ n
   length-map-from i n = length-map (from i n) f ∙ length-from i n

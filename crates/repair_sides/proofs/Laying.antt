@@ -1,15 +1,16 @@
 -- Whether a side bounds a polygon, and the sides that do, laid down one after another: what is laid down and what is left to lay down are
 -- together all of them, before and after each side. Assumes nothing.
-use mathlib.Core.Path.{_≡_, sym, _∙_, ap, ap₂}
+use mathlib.Core.Path.{_≡_, refl, sym, _∙_, ap, ap₂}
 use mathlib.Core.Bool.{Bool, true, false, not, cond, _&&_}
-use mathlib.Core.List.{List, [], _∷_, _++_, append-assoc, append-nil}
+use mathlib.Core.List.{List, [], _∷_, _++_, append-nil}
 use Prim.Native.Nat.{ℕ, zero, suc, _+_, _-_, _/_, _≤_, _<_}
 use native.Mathlib.Omega.{arith}
 use borrow.Author.Tests.{eq-eqb, ne-eqb}
 use lib.Dec.{eqb}
-use lib.ListN.{length, getD, take, drop, set, length-append, take-append-drop}
-use lib.Seq.{length-take-le, take-at, take-suc-set, drop-set-lt, drop-drop}
+use lib.ListN.{length, getD, take, drop, set, length-append, length-set, take-append-drop}
+use lib.Seq.{length-take-le, take-at, drop-set-lt, drop-drop}
 use Rattle.whole.specs.Sums.{All, passing}
+use Rattle.whole.proofs.Laid.{one-laid}
 use Rattle.repair_regions.specs.Regions.{from}
 use Rattle.repair_sides.specs.Numbered.{ownsAcross, bounds, boundaryNumbers, LaidDown}
 
@@ -30,47 +31,50 @@ module _ (opposite owners : List ℕ) (polygon k : ℕ) where
   some-across h f = let e : getD opposite k 0 ≡ suc (getD opposite k 0 - 1) = omega (arith, f) in own h (suc (getD opposite k 0 - 1)) e
 
 -- ---- the sides that pass a test, laid down
-module _ (test : ℕ → Bool) where
-  -- The first n numbers laid down, and those from k on before m that are to be.
-  abbrev pub laid : List ℕ → ℕ → ℕ → ℕ → List ℕ
-  laid out n k m = take n out ++ passing test (from k (m - k))
+-- The first n numbers are laid down, and with those from k on before m that are to be they are all of them; behind them stands what stood there.
+pub record Laying (test : ℕ → Bool) (m : ℕ) (before : List ℕ) (n k : ℕ) (out : List ℕ) : Type 0 where
+  pub fewer : n ≤ k
+  pub within : k ≤ m
+  pub long : length out ≡ length before
+  pub all : take n out ++ passing test (from k (m - k)) ≡ passing test (from 0 m)
+  pub behind : drop n out ≡ drop n before
 
-  step : (k m : ℕ) → k < m → (b : Bool) → test k ≡ b → passing test (from k (m - k)) ≡ cond b (k ∷ passing test (from (k + 1) (m - (k + 1)))) (passing test (from (k + 1) (m - (k + 1))))
-  step k m h b e =
-      let z : m - k ≡ suc (m - (k + 1)) = omega arith in
-      let w : suc k ≡ k + 1 = omega arith in
-      ap (λ i. passing test (from k i)) z ∙ ap₂ (λ c j. cond c (k ∷ passing test (from j (m - (k + 1)))) (passing test (from j (m - (k + 1))))) e w
+pub laying-none : (test : ℕ → Bool) (m : ℕ) (out : List ℕ) → Laying test m out 0 0 out
+laying-none test m out = let z : m - 0 ≡ m = omega arith in record { fewer = omega arith; within = omega arith; long = refl; all = rw z refl; behind = refl }
 
-  -- None is laid down.
-  pub laid-none : (out : List ℕ) (m : ℕ) → laid out 0 0 m ≡ passing test (from 0 m)
-  laid-none out m = let z : m - 0 ≡ m = omega arith in ap (λ i. passing test (from 0 i)) z
+module _ {test : ℕ → Bool} {m : ℕ} {before : List ℕ} {n k : ℕ} {out : List ℕ} (l : Laying test m before n k out) where
+  module _ (h : k < m) where
+    abbrev rest : List ℕ
+    rest = passing test (from (k + 1) (m - (k + 1)))
 
-  -- Number k does not pass.
-  pub laid-past : (out : List ℕ) (n k m : ℕ) → k < m → test k ≡ false → laid out n (k + 1) m ≡ laid out n k m
-  laid-past out n k m h e = ap (λ l. take n out ++ l) (sym (step k m h false e))
+    step : (b : Bool) → test k ≡ b → take n out ++ cond b (k ∷ rest) rest ≡ passing test (from 0 m)
+    step b e =
+        let z : m - k ≡ suc (m - (k + 1)) = omega arith in
+        let w : suc k ≡ k + 1 = omega arith in
+        ap₂ (λ c j. take n out ++ cond c (k ∷ passing test (from j (m - (k + 1)))) (passing test (from j (m - (k + 1))))) (sym e) (sym w) ∙ (rw z at (l .all))
 
-  -- Number k passes, and is laid down.
-  pub laid-one : (out : List ℕ) (n k m : ℕ) → k < m → n < length out → test k ≡ true → laid (set out n k) (n + 1) (k + 1) m ≡ laid out n k m
-  laid-one out n k m h g e =
-      let w : n + 1 ≡ suc n = omega arith in
-      let rest = passing test (from (k + 1) (m - (k + 1))) in
-      ap (λ i. take i (set out n k) ++ rest) w
-      ∙ ap (λ l. l ++ rest) (take-suc-set out n k g)
-      ∙ append-assoc (take n out) (k ∷ []) rest
-      ∙ ap (λ l. take n out ++ l) (sym (step k m h true e))
+    -- Number k does not pass.
+    pub laying-past : test k ≡ false → Laying test m before n (k + 1) out
+    laying-past e = record { fewer = omega (arith, l .fewer); within = omega arith; long = l .long; all = step false e; behind = l .behind }
+
+    -- Number k passes, and is laid down.
+    pub laying-one : m ≤ length before → test k ≡ true → Laying test m before (n + 1) (k + 1) (set out n k)
+    laying-one f e = record {
+      fewer = omega (arith, l .fewer);
+      within = omega arith;
+      long = length-set out n k ∙ l .long;
+      all = one-laid out rest n k (omega (arith, l .fewer, l .long)) ∙ step true e;
+      behind = drop-set-lt (n + 1) out n k (omega arith) ∙ sym (drop-drop 1 n out) ∙ ap (drop 1) (l .behind) ∙ drop-drop 1 n before;
+    }
 
   -- All are laid down.
-  pub laid-all : (out : List ℕ) (n k m : ℕ) → m ≤ k → laid out n k m ≡ take n out
-  laid-all out n k m h = let z : m - k ≡ 0 = omega arith in ap (λ i. take n out ++ passing test (from k i)) z ∙ append-nil (take n out)
+  pub laying-all : m ≤ k → m ≤ length before → LaidDown (passing test (from 0 m)) before n out
+  laying-all h f =
+      let z : m - k ≡ 0 = omega arith in
+      let e : take n out ≡ passing test (from 0 m) = sym (append-nil (take n out)) ∙ (rw z at (l .all)) in
+      record { many = sym (length-take-le n out (omega (arith, l .fewer, l .within, l .long))) ∙ ap length e; left = sym (take-append-drop n out) ∙ ap₂ _++_ e (l .behind) }
 
--- ---- a list laid down at the front of another
--- One more is laid down, and what stands behind is as it was.
-pub rest-kept : (out out₀ : List ℕ) (n x : ℕ) → drop n out ≡ drop n out₀ → drop (n + 1) (set out n x) ≡ drop (n + 1) out₀
-rest-kept out out₀ n x e = drop-set-lt (n + 1) out n x (omega arith) ∙ sym (drop-drop 1 n out) ∙ ap (drop 1) e ∙ drop-drop 1 n out₀
-
-pub laid-front : {l out out₀ : List ℕ} {n : ℕ} → n ≤ length out → take n out ≡ l → drop n out ≡ drop n out₀ → LaidDown l out₀ n out
-laid-front {out = out} {n = n} h e f = record { many = sym (length-take-le n out h) ∙ ap length e; left = sym (take-append-drop n out) ∙ ap₂ _++_ e f }
-
+-- What is laid down stands at the front.
 pub front-laid : {l out out₀ : List ℕ} {n : ℕ} → LaidDown l out₀ n out → (n ≤ length out) × (take n out ≡ l)
 front-laid {l} {out₀ = out₀} {n = n} e = (omega (arith, e .many, ap length (e .left), length-append l (drop n out₀)), ap (take n) (e .left) ∙ take-at l (drop n out₀) n (sym (e .many)))
 

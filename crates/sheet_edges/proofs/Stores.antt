@@ -6,14 +6,10 @@ use Prim.Native.Nat.{ℕ, suc, _+_, _≤_}
 use native.Mathlib.Omega.{arith}
 use lib.ListN.{length, take, drop, set, length-append}
 use lib.Seq.{sets, length-sets, sets-eq, take-at, drop-at}
-use Rattle.whole.specs.Sums.{All}
+use Rattle.whole.proofs.Sums.{all-++}
 use Rattle.plane.specs.Keys.{Key, pair, pairs}
 use Rattle.lent_little.proofs.Stored.{sets-++}
 use Rattle.sheet_edges.specs.Standing.{Stored}
-
-all-++ : {A : Type 0} (P : A → Type 0) (l m : List A) → All P l → All P m → All P (l ++ m)
-all-++ P [] m h k = k
-all-++ P (a ∷ l) m h k = (h .0, all-++ P l m (h .1) k)
 
 pub pairs-++ : (a b c d : List ℕ) → length a ≡ length b → pairs (a ++ c) (b ++ d) ≡ pairs a b ++ pairs c d
 pairs-++ [] [] c d h = refl

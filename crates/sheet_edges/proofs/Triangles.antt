@@ -1,16 +1,15 @@
 -- The table at the front of the held numbers: six numbers for each triangle, one corner behind the other. Assumes nothing.
-use mathlib.Core.Path.{_≡_, refl, sym, _∙_, ap, ap₂, subst}
+use mathlib.Core.Path.{_≡_, refl, sym, _∙_, ap}
 use mathlib.Core.List.{List, [], _∷_, _++_, map, flatMap}
-use Prim.Native.Nat.{ℕ, zero, suc, _+_, _*_, _≤_, _<_}
+use Prim.Native.Nat.{ℕ, zero, suc, _+_, _-_, _*_, _≤_, _<_}
 use native.Mathlib.Omega.{arith}
-use native.Mathlib.Decide.{decLe}
 use lib.IntN.{ℤ}
-use lib.ListN.{length, getD, drop, set}
-use lib.Seq.{getD-set-same, getD-set-other}
+use lib.ListN.{length, getD, take, drop, set, length-set}
 use Rattle.whole.specs.Sums.{All}
-use Rattle.plane.specs.Points.{Point, Triangle}
+use Rattle.whole.proofs.Laid.{one-laid, all-laid}
+use Rattle.plane.specs.Points.{Triangle}
 use Rattle.plane.specs.Corners.{millimetres}
-use Rattle.plane.specs.Keys.{point, Held, keyOf, pointAt, Key}
+use Rattle.plane.specs.Keys.{point, Held, keyOf, Key}
 use Rattle.table.specs.Sides.{trianglesOf}
 use Rattle.sheet_form.specs.Numbers.{pointNumbers, triangleNumbers, counted}
 use Rattle.sheet_edges.specs.Standing.{NumbersAt, cornerAt}
@@ -45,85 +44,62 @@ module _ (numbers : List ℕ) (table : List Triangle) (rest : List ℤ) (s : Num
   pub table-room : 1 + 6 * length table ≤ length numbers
   table-room = let u = count-first triangleNumbers numbers 0 table rest s in triangles-behind numbers 1 table rest (omega arith) (u .2) .0
 
--- The first i of the list are the numbers of the corners that stand from the place on.
-abbrev pub Laying : List ℕ → ℕ → List ℕ → ℕ → Type 0
-Laying numbers at keys i = (j : ℕ) → j < i → getD keys j 0 ≡ keyOf (cornerAt numbers (at + 2 * j))
-
-pub laying-none : (numbers : List ℕ) (at : ℕ) (keys : List ℕ) → Laying numbers at keys 0
-laying-none numbers at keys j h = absurd (omega arith)
-
-pub laying-more : (numbers : List ℕ) (at : ℕ) (keys : List ℕ) (i : ℕ) → i < length keys → Laying numbers at keys i → Laying numbers at (set keys i (keyOf (cornerAt numbers (at + 2 * i)))) (i + 1)
-laying-more numbers at keys i h w j k = go (decLe (j + 1) i)
-  where
-    go : Dec (j + 1 ≤ i) → getD (set keys i (keyOf (cornerAt numbers (at + 2 * i)))) j 0 ≡ keyOf (cornerAt numbers (at + 2 * j))
-    go (yes d) = getD-set-other keys i j (keyOf (cornerAt numbers (at + 2 * i))) 0 (omega arith) ∙ w j (omega arith)
-    go (no d) = let e : j ≡ i = omega arith in rw e (getD-set-same keys i (keyOf (cornerAt numbers (at + 2 * i))) 0 h)
-
--- The first of the list, and the others from the next point on.
-laying-first : (numbers : List ℕ) (at k : ℕ) (keys : List ℕ) (i : ℕ) → Laying numbers at (k ∷ keys) (suc i) → (k ≡ keyOf (cornerAt numbers at)) × Laying numbers (at + 2) keys i
-laying-first numbers at k keys i w = (
-  let e : at + 2 * 0 ≡ at = omega arith in w 0 (omega arith) ∙ ap (λ n. keyOf (cornerAt numbers n)) e,
-  λ j h. let e : at + 2 * suc j ≡ at + 2 + 2 * j = omega arith in w (suc j) (omega arith) ∙ ap (λ n. keyOf (cornerAt numbers n)) e,
-)
-
-module _ (numbers : List ℕ) (held : All Held numbers) where
-  -- All of the list are numbers of corners.
-  pub laid-keys : (at : ℕ) (keys : List ℕ) → Laying numbers at keys (length keys) → All Key keys
-  laid-keys at [] w = tt
-  laid-keys at (k ∷ keys) w = let u = laying-first numbers at k keys (length keys) w in (subst Key (sym (u .0)) (key-at numbers held at), laid-keys (at + 2) keys (u .1))
-
-  -- The corners laid down are the triangles that stand there.
-  laid-triangles : (at : ℕ) (keys : List ℕ) → Laying numbers at keys (length keys) → (table : List Triangle) (rest : List ℤ) → map millimetres (drop at numbers) ≡ flatMap triangleNumbers table ++ rest
-      → length keys ≡ 3 * length table → trianglesOf keys ≡ table
-  unfolding flatMap
-  laid-triangles at [] w [] rest s h = refl
-  laid-triangles at [] w (t ∷ table) rest s h = absurd (omega arith)
-  laid-triangles at (a ∷ keys) w [] rest s h = absurd (omega arith)
-  laid-triangles at (a ∷ []) w (t ∷ table) rest s h = absurd (omega arith)
-  laid-triangles at (a ∷ b ∷ []) w (t ∷ table) rest s h = absurd (omega arith)
-  laid-triangles at (a ∷ b ∷ c ∷ keys) w (t ∷ table) rest s h =
-      let f = triangle-first numbers at t (flatMap triangleNumbers table ++ rest) s in
-      let u = laying-first numbers at a (b ∷ c ∷ keys) (suc (suc (length keys))) w in
-      let v = laying-first numbers (at + 2) b (c ∷ keys) (suc (length keys)) (u .1) in
-      let x = laying-first numbers (at + 2 + 2) c keys (length keys) (v .1) in
-      ap₂ _∷_ (triangle (pointAt a) (pointAt b) (pointAt c) (corner a at (t .a) (u .0) (f .1)) (corner b (at + 2) (t .b) (v .0) (f .2)) (corner c (at + 2 + 2) (t .c) (x .0) (f .3)))
-      (laid-triangles (at + 2 + 2 + 2) keys (x .1) table rest (f .4) (omega arith))
-    where
-      corner : (k i : ℕ) (p : Point) → k ≡ keyOf (cornerAt numbers i) → point (cornerAt numbers i) ≡ p → pointAt k ≡ p
-      corner k i p e d = ap pointAt e ∙ point-at numbers held i ∙ d
-
-      triangle : (p q r : Point) → p ≡ t .a → q ≡ t .b → r ≡ t .c → record { a = p; b = q; c = r } ≡ t
-      triangle p q r d e f = rw (d, e, f) refl
-
-  pub laid-table : (keys : List ℕ) → Laying numbers 1 keys (length keys) → (table : List Triangle) (rest : List ℤ) → NumbersAt (counted triangleNumbers) numbers 0 table rest
-      → length keys ≡ 3 * length table → trianglesOf keys ≡ table
-  laid-table keys w table rest s h = laid-triangles 1 keys w table rest (count-first triangleNumbers numbers 0 table rest s .2) h
-
 -- The numbers of so many corners, which stand from the place on.
-abbrev keysFrom : List ℕ → ℕ → ℕ → List ℕ
+abbrev pub keysFrom : List ℕ → ℕ → ℕ → List ℕ
 keysFrom numbers at zero = []
 keysFrom numbers at (suc n) = keyOf (cornerAt numbers at) ∷ keysFrom numbers (at + 2) n
 
-length-keys : (numbers : List ℕ) (at n : ℕ) → length (keysFrom numbers at n) ≡ n
+pub length-keys : (numbers : List ℕ) (at n : ℕ) → length (keysFrom numbers at n) ≡ n
 length-keys numbers at zero = refl
 length-keys numbers at (suc n) = ap suc (length-keys numbers (at + 2) n)
 
-keys-laid : (numbers : List ℕ) (at n : ℕ) → Laying numbers at (keysFrom numbers at n) n
-keys-laid numbers at zero j h = absurd (omega arith)
-keys-laid numbers at (suc n) zero h = let e : at ≡ at + 2 * 0 = omega arith in ap (λ i. keyOf (cornerAt numbers i)) e
-keys-laid numbers at (suc n) (suc j) h =
-    let e : at + 2 + 2 * j ≡ at + 2 * suc j = omega arith in keys-laid numbers (at + 2) n j (omega arith) ∙ ap (λ i. keyOf (cornerAt numbers i)) e
+keys-at : (numbers : List ℕ) (at n j : ℕ) → j < n → getD (keysFrom numbers at n) j 0 ≡ keyOf (cornerAt numbers (at + 2 * j))
+keys-at numbers at zero j h = absurd (omega arith)
+keys-at numbers at (suc n) zero h = let e : at ≡ at + 2 * 0 = omega arith in ap (λ i. keyOf (cornerAt numbers i)) e
+keys-at numbers at (suc n) (suc j) h =
+    let e : at + 2 + 2 * j ≡ at + 2 * suc j = omega arith in keys-at numbers (at + 2) n j (omega arith) ∙ ap (λ i. keyOf (cornerAt numbers i)) e
+
+-- The first i of the list are laid down, and the others are left.
+abbrev pub Laying : List ℕ → List ℕ → ℕ → Type 0
+Laying numbers keys i = take i keys ++ keysFrom numbers (1 + 2 * i) (length keys - i) ≡ keysFrom numbers 1 (length keys)
+
+pub laying-none : (numbers keys : List ℕ) → Laying numbers keys 0
+laying-none numbers keys = let e : length keys - 0 ≡ length keys = omega arith in ap (keysFrom numbers 1) e
+
+pub laying-more : (numbers keys : List ℕ) (i : ℕ) → i < length keys → Laying numbers keys i → Laying numbers (set keys i (keyOf (cornerAt numbers (1 + 2 * i)))) (i + 1)
+laying-more numbers keys i h w =
+    let m : length keys - i ≡ suc (length keys - (i + 1)) = omega arith in
+    let e : 1 + 2 * (i + 1) ≡ 1 + 2 * i + 2 = omega arith in
+    rw (length-set, e, one-laid keys (keysFrom numbers (1 + 2 * i + 2) (length keys - (i + 1))) i (keyOf (cornerAt numbers (1 + 2 * i))) h) (rw m at w)
+
+pub laid-all : (numbers keys : List ℕ) (i : ℕ) → length keys ≤ i → Laying numbers keys i → keys ≡ keysFrom numbers 1 (length keys)
+laid-all numbers keys i h w =
+    let e : length keys - i ≡ 0 = omega arith in
+    sym (all-laid keys (keysFrom numbers (1 + 2 * i) (length keys - i)) i h (ap (keysFrom numbers (1 + 2 * i)) e)) ∙ w
+
+module _ (numbers : List ℕ) (held : All Held numbers) where
+  pub keys-are : (at n : ℕ) → All Key (keysFrom numbers at n)
+  keys-are at zero = tt
+  keys-are at (suc n) = (key-at numbers held at, keys-are (at + 2) n)
+
+  -- The corners of the triangles that stand there.
+  keys-triangles : (at : ℕ) (table : List Triangle) (rest : List ℤ) → map millimetres (drop at numbers) ≡ flatMap triangleNumbers table ++ rest
+      → trianglesOf (keysFrom numbers at (3 * length table)) ≡ table
+  unfolding flatMap
+  keys-triangles at [] rest s = refl
+  keys-triangles at (t ∷ table) rest s =
+      let e : 3 * suc (length table) ≡ suc (suc (suc (3 * length table))) = omega arith in
+      let f = triangle-first numbers at t (flatMap triangleNumbers table ++ rest) s in
+      rw (e, point-at numbers held at ∙ f .1, point-at numbers held (at + 2) ∙ f .2, point-at numbers held (at + 2 + 2) ∙ f .3)
+      (ap (λ l. t ∷ l) (keys-triangles (at + 2 + 2 + 2) table rest (f .4)))
+
+  pub keys-table : (table : List Triangle) (rest : List ℤ) → NumbersAt (counted triangleNumbers) numbers 0 table rest → trianglesOf (keysFrom numbers 1 (3 * length table)) ≡ table
+  keys-table table rest s = keys-triangles 1 table rest (count-first triangleNumbers numbers 0 table rest s .2)
 
 -- A table that stands at the front of held numbers is the triangles of its corners' numbers, three for each, as they stand there.
 pub held-keys : (numbers : List ℕ) → All Held numbers → (table : List Triangle) (rest : List ℤ) → NumbersAt (counted triangleNumbers) numbers 0 table rest
     → (keys : List ℕ) × (length keys ≡ 3 * length table) × (trianglesOf keys ≡ table) × ((k : ℕ) → k < length keys → getD keys k 0 ≡ keyOf (cornerAt numbers (1 + 2 * k)))
-held-keys numbers held table rest s = (keys, long, laid-table numbers held keys laid table rest s long, laid)
-  where
-    keys : List ℕ
-    keys = keysFrom numbers 1 (3 * length table)
-
-    long : length keys ≡ 3 * length table
-    long = length-keys numbers 1 (3 * length table)
-
-    laid : Laying numbers 1 keys (length keys)
-    laid = rw long (keys-laid numbers 1 (3 * length table))
+held-keys numbers held table rest s =
+    let n = 3 * length table in
+    let long = length-keys numbers 1 n in
+    (keysFrom numbers 1 n, long, keys-table numbers held table rest s, λ k h. keys-at numbers 1 n k (omega arith))

@@ -2,7 +2,6 @@
 -- table, what is left stands at a place in the table as lists with the place's counts (Table, Left), and reading takes one
 -- thing after the other off these lists: with lists there, reading ends with code 0 and their numbers; with code 0, there are such lists.
 -- The sheet of the tree is the one answered, since its numbers form determines it (NumbersForm). Assumes nothing.
-mod Below
 mod Entered
 mod Fields
 mod Holding
@@ -47,7 +46,7 @@ use Rattle.sheet_standard.specs.Limits.{memberOf, triangleOf, each, shee
 use Rattle.sheet.proofs.Run.{reading-starts}
 use Rattle.sheet_standard.proofs.Standard.Fields.{Bytes, heading, heading-is, heads}
 use Rattle.sheet_standard.proofs.Standard.Steps.{AtGeometry, geometry-goes, geometry-back}
-use Rattle.sheet_standard.proofs.Standard.Left.{Top, Ends, millimetres-count, no-list}
+use Rattle.sheet_standard.proofs.Standard.Left.{Top, Ends, millimetres-count, no-list, no-polygon}
 use Rattle.sheet_standard.proofs.Standard.Opened.{count-fits, fits-count}
 use Rattle.sheet_standard.proofs.Standard.Table.{InTable, TableStands, membersOutcome, tableOutcome}
 use Rattle.sheet_standard.proofs.Standard.TableInduction.{table-through, table-back}
@@ -179,17 +178,8 @@ headers-through limit s l₁ l₂ gs ms word many f pieces members total e =
       ← sheet-numbers l₁ l₂ gs ms,
     )
     (table-through (suc (length s)) s (piecesPlace limit n m) (tableTaken m) [] [] gs ms (omega arith) (table-place limit s n m (omega arith, many) (r .nine)) (omega (arith, f .0)) (record {
-      points-number = refl;
-      rings-number = refl;
-      pieces-number = refl;
-      members-number = omega arith;
-      bytes = r .next;
-      points-fit = tt;
-      closes = tt;
-      rings-fit = tt;
-      pieces-fit = pieces;
-      members-fit = members;
-      total-fits = omega arith;
+      polygon = no-polygon refl refl (r .next);
+      below = record { pieces-are = (refl, pieces); members-are = (omega arith, members); total-fits = omega arith };
     }))
 
 tree-through : (limit : ℕ) (s : List ℕ) (g : Geometry) → limit < 2 ^ 32 → SheetFits limit g → encode g ≡ s → Ends (reading s (start limit) nothing) (numbersOf (sheetOf g))
@@ -207,15 +197,15 @@ tree-stood : (limit : ℕ) (s : List ℕ) (l₁ l₂ : Bool) (n m : ℕ) (gs ms 
     → TableStands s (piecesPlace limit n m) (tableTaken m) [] [] gs ms → (g : Geometry) × SheetFits limit g × (encode g ≡ s)
 unfolding SheetFits encode encodeAll flatMap
 tree-stood limit s l₁ l₂ n m gs ms f k e0 e9 h =
-    let p : count gs ≡ m = h .pieces-number in
-    let q : suc (count ms) ≡ n = let z = h .members-number in let l = f .0 in omega arith in
+    let p : count gs ≡ m = h .below .pieces-are .0 in
+    let q : suc (count ms) ≡ n = let z = h .below .members-are .0 in let l = f .0 in omega arith in
     let many : suc (count ms) ≤ limit = omega (arith, f .1) in
     let number : FromTo 2 1024 (count gs) = (omega (arith, k .0), omega (arith, k .1)) in
-    let total : allLengths (each memberOf ms) ≤ 4096 = let z = h .total-fits in omega arith in
+    let total : allLengths (each memberOf ms) ≤ 4096 = let z = h .below .total-fits in omega arith in
     let bytes : encode (holding l₁ Collection (holding l₂ Tin gs then ms)) ≡ s =
     rw (heading-is l₁ Collection (suc (count ms)), heading-is l₂ Tin (count gs), q, p)
-    (sym (e0 ∙ ap (λ l. heading l₁ 7 n ++ l) (e9 ∙ ap (λ l. heading l₂ 16 m ++ l) (h .bytes) ∙ sym (append-assoc (heading l₂ 16 m) (encodeAll gs) (encodeAll ms))))) in
-    (holding l₁ Collection (holding l₂ Tin gs then ms), (refl, many, (refl, number, h .pieces-fit), h .members-fit, total), bytes)
+    (sym (e0 ∙ ap (λ l. heading l₁ 7 n ++ l) (e9 ∙ ap (λ l. heading l₂ 16 m ++ l) (h .polygon .bytes) ∙ sym (append-assoc (heading l₂ 16 m) (encodeAll gs) (encodeAll ms))))) in
+    (holding l₁ Collection (holding l₂ Tin gs then ms), (refl, many, (refl, number, h .below .pieces-are .1), h .below .members-are .1, total), bytes)
 
 tree-back : (limit : ℕ) (s : List ℕ) → Bytes s → reading s (start limit) nothing .code ≡ 0 → (g : Geometry) × SheetFits limit g × (encode g ≡ s)
 unfolding countFits
@@ -232,7 +222,7 @@ tree-back limit s bytes code =
     let b-code : reading s (piecesPlace limit n m) (tableTaken m) .code ≡ 0 = rw (table-slot limit n, table-opened limit n (b .little) (b .kind) m, table-taken limit n (piecesPlace limit n m) (b .kind) m) at (b .on-with) in
     let v = table-back (suc (length s)) s (piecesPlace limit n m) (tableTaken m) (omega arith) bytes (table-place limit s n m f (b .nine)) (omega (arith, k .0)) b-code in
     tree-stood limit s (a .little) (b .little) n m (v .2) (v .3) f k (rw a7 at (a .bytes)) (rw b16 at (b .bytes))
-    (rw (no-list (v .0) (v .4 .points-number), no-list (v .1) (v .4 .rings-number)) at (v .4))
+    (rw (no-list (v .0) (v .4 .polygon .points-number), no-list (v .1) (v .4 .polygon .rings-number)) at (v .4))
 
 -- ---- the theorem
 -- A count is a u32, and so is the limit.

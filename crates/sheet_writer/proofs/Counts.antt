@@ -1,16 +1,16 @@
 -- The two counts that are looked at before the walk, as the bits that the code reads: with a wrong one nothing is emitted, with right ones what is
 -- emitted for the table and the polygons is the sheet, if it ends so. Assumes nothing.
-use mathlib.Core.Path.{_≡_, refl, sym, _∙_, ap, subst}
+use mathlib.Core.Path.{_≡_, refl, sym, _∙_, ap}
 use mathlib.Core.Bool.{true, false}
 use mathlib.Core.List.{List, [], _∷_}
 use mathlib.Core.Option.{none}
 use mir.Syntax.{w32}
 use mir.Val.{toZ}
-use Prim.Native.Nat.{ℕ, suc, _+_, _-_, _*_, _/_, _^_, _≤_, _<_}
+use Prim.Native.Nat.{ℕ, _+_, _*_, _/_, _^_, _≤_, _<_}
 use native.Mathlib.Omega.{arith}
 use borrow.Author.Tests.{le-leb, lt-leb, leb-true}
 use lib.Dec.{leb}
-use lib.IntN.{ℤ, pos, negsuc}
+use lib.IntN.{ℤ, pos}
 use lib.ListN.{length, drop, length-drop}
 use Rattle.sheet_coordinate.proofs.Doubles.{and-true}
 use Rattle.lent_little.specs.Ordered.{wordAt}
@@ -26,14 +26,7 @@ use Rattle.sheet_writer.proofs.Wholes.{Walked}
 
 -- Bits that stand for a natural number.
 natural : (p n : ℕ) → toZ w32 p ≡ pos n → p ≡ n
-natural p n e = by-order p (2 ^ 31) (λ h. let k : pos p ≡ pos n = sym (signed-low p h) ∙ e in cc k) (λ h. let k : negsuc (4_294_967_296 - suc p) ≡ pos n = sym (signed-high p h) ∙ e in absurd (apart k))
-  where
-    shows : ℤ → Type 0
-    shows (pos k) = ⊥
-    shows (negsuc k) = Unit {0}
-
-    apart : {k m : ℕ} → negsuc k ≡ pos m → ⊥
-    apart q = subst shows q tt
+natural p n e = by-order p (2 ^ 31) (λ h. cc (signed-low p h)) (λ h. let z : _≡_ {A = ℕ} 0 1 = cc (signed-high p h) in absurd (omega arith))
 
 pub within-limits : (t : ℕ) → 2 ≤ t → t ≤ 1024 → fromTo 2 1024 t ≡ true
 within-limits t h k = rw (le-leb 2 t h, le-leb t 1024 k) refl

@@ -1,7 +1,7 @@
 -- What is emitted for numbers is the normal bytes of the sheet that they make up. The idea: each level emits exactly where its thing stands at
 -- the front of the numbers and passes its test, and then the thing's bytes; this is kept by lists and by counts, from points to the sheet.
 -- Assumes nothing.
-use mathlib.Core.Path.{_≡_, refl, sym, _∙_, ap, ap₂, subst}
+use mathlib.Core.Path.{_≡_, refl, sym, _∙_, ap, subst}
 use mathlib.Core.Bool.{Bool, true, false, _&&_, cond}
 use mathlib.Core.List.{List, [], _∷_, _++_, map, flatMap, append-assoc, append-nil}
 use mathlib.Core.Option.{Option, none, some, Option·none-ne-some, Option·some-injective}
@@ -9,6 +9,7 @@ use Prim.Native.Nat.{ℕ, zero, suc, _+_, _-_, _*_, _≤_, _<_}
 use native.Mathlib.Omega.{arith}
 use native.Mathlib.Nat.{zero-add}
 use lib.Dec.{T, leb, leb→le, le→leb, leb·zero, leb·suc-zero, eqb·suc-suc, eqb·suc-zero}
+use lib.Ieee.Bits.{is-true}
 use lib.IntN.{ℤ, pos, negsuc}
 use lib.ListN.{length, getD, length-map, length-append}
 use Rattle.whole.specs.Sums.{every}
@@ -102,9 +103,9 @@ emitted ok enc pts (some (a, r)) = cond (ok a) (some (record { bytes = enc a; po
 abbrev Emits : {A : Type 0} → (List ℤ → Front A) → (A → Bool) → (A → List ℕ) → (A → ℕ) → (List ℤ → Option Emitted) → Type 0
 Emits f ok enc pts g = (l : List ℤ) → g l ≡ emitted ok enc pts (f l)
 
-abbrev total : {A : Type 0} → (A → ℕ) → List A → ℕ
-total pts [] = 0
-total pts (a ∷ l) = pts a + total pts l
+-- The points among things are those of each.
+abbrev Adds : {A : Type 0} → (A → ℕ) → (List A → ℕ) → Type 0
+Adds {A} pts among = (among [] ≡ 0) × ((a : A) (l : List A) → among (a ∷ l) ≡ pts a + among l)
 
 -- ---- so many things, and a count of things
 -- Two things are emitted where both tests are passed.
@@ -122,19 +123,19 @@ no-choice : {A : Type 0} (b : Bool) (x : A) → cond b x x ≡ x
 no-choice true x = refl
 no-choice false x = refl
 
-module _ {A : Type 0} (f : List ℤ → Front A) (ok : A → Bool) (enc : A → List ℕ) (pts : A → ℕ) (g : List ℤ → Option Emitted) (is : Emits f ok enc pts g) where
-  many : (n : ℕ) → Emits (manyIn f n) (every ok) (flatMap enc) (total pts) (emitMany g n)
+module _ {A : Type 0} (f : List ℤ → Front A) (ok : A → Bool) (enc : A → List ℕ) (pts : A → ℕ) (among : List A → ℕ) (adds : Adds pts among) (g : List ℤ → Option Emitted) (is : Emits f ok enc pts g) where
+  many : (n : ℕ) → Emits (manyIn f n) (every ok) (flatMap enc) among (emitMany g n)
   unfolding manyIn emitMany flatMap
-  many zero l = refl
+  many zero l = rw (adds .0) refl
   many (suc n) l = rw (is l) (go (many n) (f l))
     where
-      step : (a : A) (r : List ℤ) (x : Front (List A)) → emitMany g n r ≡ emitted (every ok) (flatMap enc) (total pts) x
-          → followed (emitted ok enc pts (some (a, r))) (emitMany g n) ≡ emitted (every ok) (flatMap enc) (total pts) (after x (λ m q. some (a ∷ m, q)))
+      step : (a : A) (r : List ℤ) (x : Front (List A)) → emitMany g n r ≡ emitted (every ok) (flatMap enc) among x
+          → followed (emitted ok enc pts (some (a, r))) (emitMany g n) ≡ emitted (every ok) (flatMap enc) among (after x (λ m q. some (a ∷ m, q)))
       step a r none h = followed-none (ok a) _ (emitMany g n) h
-      step a r (some (m, q)) h = followed-cond (ok a) (every ok m) _ _ (emitMany g n) h
+      step a r (some (m, q)) h = rw (adds .1 a m) (followed-cond (ok a) (every ok m) _ _ (emitMany g n) h)
 
-      go : Emits (manyIn f n) (every ok) (flatMap enc) (total pts) (emitMany g n) → (x : Front A)
-          → followed (emitted ok enc pts x) (emitMany g n) ≡ emitted (every ok) (flatMap enc) (total pts) (after x (λ a k. after (manyIn f n k) (λ m q. some (a ∷ m, q))))
+      go : Emits (manyIn f n) (every ok) (flatMap enc) among (emitMany g n) → (x : Front A)
+          → followed (emitted ok enc pts x) (emitMany g n) ≡ emitted (every ok) (flatMap enc) among (after x (λ a k. after (manyIn f n k) (λ m q. some (a ∷ m, q))))
       go h none = refl
       go h (some (a, r)) = step a r (manyIn f n r) (h r)
 
@@ -146,7 +147,7 @@ module _ {A : Type 0} (f : List ℤ → Front A) (ok : A → Bool) (enc : A → 
     abbrev Heads : Type 0
     Heads = (a : List A) → T (fromTo (low k) (high k) (length a)) → heading k (length a) ++ flatMap enc a ≡ encs a
 
-    counted : Tests → Heads → Emits (countedIn f) test encs (total pts) (emitCounted k g)
+    counted : Tests → Heads → Emits (countedIn f) test encs among (emitCounted k g)
     counted tests heads [] = refl
     counted tests heads (negsuc n ∷ l) = refl
     counted tests heads (pos n ∷ l) = rw (many n l) (go n (manyIn f n l) refl)
@@ -159,14 +160,14 @@ module _ {A : Type 0} (f : List ℤ → Front A) (ok : A → Bool) (enc : A → 
         step true true h b e p r q = rw (q tt, zero-add p) refl
 
         go : (n : ℕ) (x : Front (List A)) → manyIn f n l ≡ x
-            → cond (fromTo (low k) (high k) n && closes k n l) (joined (record { bytes = heading k n; points = 0; rest = l }) (emitted (every ok) (flatMap enc) (total pts) x)) none
-            ≡ emitted test encs (total pts) x
+            → cond (fromTo (low k) (high k) n && closes k n l) (joined (record { bytes = heading k n; points = 0; rest = l }) (emitted (every ok) (flatMap enc) among x)) none
+            ≡ emitted test encs among x
         go n none e = no-choice (fromTo (low k) (high k) n && closes k n l) none
         go n (some (a, r)) e =
             let len = many-length f n l a r e in
             let at = subst (λ (i : ℕ). manyIn f i l ≡ some (a, r)) (sym len) e in
             rw (← len, tests l a r at)
-            (step (fromTo (low k) (high k) (length a) && closes k (length a) l) (every ok a) (heading k (length a)) (flatMap enc a) (encs a) (total pts a) r
+            (step (fromTo (low k) (high k) (length a) && closes k (length a) l) (every ok a) (heading k (length a)) (flatMap enc a) (encs a) (among a) r
             (λ t. heads a (and-left (fromTo (low k) (high k) (length a)) (closes k (length a) l) t)))
 
 -- ---- points
@@ -182,10 +183,6 @@ module _ {A B : Type 0} (h : A → B) where
   unfolding flatMap
   flatMap-map g [] = refl
   flatMap-map g (a ∷ l) = ap (λ m. g (h a) ++ m) (flatMap-map g l)
-
-passed : (b : Bool) → T b → b ≡ true
-passed true t = refl
-passed false t = absurd t
 
 -- The numbers of a point of a ring.
 at : (a : Ring) (r : List ℤ) (k : ℕ) → k < length a
@@ -211,7 +208,7 @@ ring-closed a r h =
     let first = at a r 0 (omega arith) in
     let u : 2 * length a - 2 ≡ 2 * (length a - 1) = omega arith in
     let v : 2 * length a - 1 ≡ 2 * (length a - 1) + 1 = omega arith in
-    let w = passed (leb (2 * length a) (length (flatMap pointNumbers a ++ r)))
+    let w = is-true (leb (2 * length a) (length (flatMap pointNumbers a ++ r)))
     (le→leb (2 * length a) (length (flatMap pointNumbers a ++ r)) (omega (arith, length-append (flatMap pointNumbers a) r, points-length a))) in
     rw (w, u, v, last .0, last .1, first .0, first .1) refl
 
@@ -222,9 +219,9 @@ turned true false true d h = rw (h tt) refl
 turned true true false d h = rw (h tt) refl
 turned true true true d h = rw (h tt) refl
 
-ring : Emits ringIn ringFits (λ r. encodeRing true (map pairOf r)) (total (λ p. 1)) (emit 1)
+ring : Emits ringIn ringFits (λ r. encodeRing true (map pairOf r)) length (emit 1)
 unfolding emit closes heading encodeRing
-ring = counted pointIn pointFits (λ p. encodePoint true (pairOf p)) (λ p. 1) emitPoint point 1 ringFits (λ r. encodeRing true (map pairOf r)) tests heads
+ring = counted pointIn pointFits (λ p. encodePoint true (pairOf p)) (λ p. 1) length (refl, λ a l. omega arith) emitPoint point 1 ringFits (λ r. encodeRing true (map pairOf r)) tests heads
   where
     tests : (l : List ℤ) (a : Ring) (r : List ℤ) → manyIn pointIn (length a) l ≡ some (a, r) → ringFits a ≡ fromTo 4 4096 (length a) && closes 1 (length a) l && every pointFits a
     tests l a r e = turned (fromTo 4 4096 (length a)) (every pointFits a) (closed a) (closing (length a) l)
@@ -239,9 +236,9 @@ open-true : (b c : Bool) → b && c ≡ b && true && c
 open-true true c = refl
 open-true false c = refl
 
-part : Emits partIn partFits (λ p. encode (partOf p)) (total (total (λ p. 1))) (emit 2)
+part : Emits partIn partFits (λ p. encode (partOf p)) ringLengths (emit 2)
 unfolding emit closes heading encode
-part = counted ringIn ringFits (λ r. encodeRing true (map pairOf r)) (total (λ p. 1)) (emit 1) ring 2 partFits (λ p. encode (partOf p)) tests heads
+part = counted ringIn ringFits (λ r. encodeRing true (map pairOf r)) length ringLengths (refl, λ a l. refl) (emit 1) ring 2 partFits (λ p. encode (partOf p)) tests heads
   where
     tests : (l : List ℤ) (a : Polygon) (r : List ℤ) → manyIn ringIn (length a) l ≡ some (a, r) → partFits a ≡ fromTo 1 64 (length a) && closes 2 (length a) l && every ringFits a
     tests l a r e = open-true (fromTo 1 64 (length a)) (every ringFits a)
@@ -260,9 +257,9 @@ module _ {A : Type 0} (f : A → Geometry) where
   encode-is [] = refl
   encode-is (a ∷ l) = ap (λ m. encode (f a) ++ m) (encode-is l)
 
-member : Emits memberIn memberFits (λ m. encode (memberTree m)) (total (total (total (λ p. 1)))) (emit 3)
+member : Emits memberIn memberFits (λ m. encode (memberTree m)) lengths (emit 3)
 unfolding emit closes heading encode flatMap
-member = counted partIn partFits (λ p. encode (partOf p)) (total (total (λ p. 1))) (emit 2) part 3 memberFits (λ m. encode (memberTree m)) tests heads
+member = counted partIn partFits (λ p. encode (partOf p)) ringLengths lengths (refl, λ a l. refl) (emit 2) part 3 memberFits (λ m. encode (memberTree m)) tests heads
   where
     tests : (l : List ℤ) (a : Member) (r : List ℤ) → manyIn partIn (length a) l ≡ some (a, r) → memberFits a ≡ fromTo 1 64 (length a) && closes 3 (length a) l && every partFits a
     tests l a r e = open-true (fromTo 1 64 (length a)) (every partFits a)
@@ -276,29 +273,12 @@ member = counted partIn partFits (λ p. encode (partOf p)) (total (total (λ p. 
 abbrev allFit : List Member → Bool
 allFit l = leb (length l + 1) members && every memberFits l
 
-all : Emits (countedIn memberIn) allFit (flatMap (λ m. encode (memberTree m))) (total (total (total (total (λ p. 1))))) (emit 4)
+all : Emits (countedIn memberIn) allFit (flatMap (λ m. encode (memberTree m))) allLengths (emit 4)
 unfolding emit closes heading
-all = counted memberIn memberFits (λ m. encode (memberTree m)) (total (total (total (λ p. 1)))) (emit 3) member 4 allFit (flatMap (λ m. encode (memberTree m))) tests (λ a t. refl)
+all = counted memberIn memberFits (λ m. encode (memberTree m)) lengths allLengths (refl, λ a l. refl) (emit 3) member 4 allFit (flatMap (λ m. encode (memberTree m))) tests (λ a t. refl)
   where
     tests : (l : List ℤ) (a : List Member) (r : List ℤ) → manyIn memberIn (length a) l ≡ some (a, r) → allFit a ≡ fromTo 0 64 (length a) && closes 4 (length a) l && every memberFits a
     tests l a r e = rw (leb·zero (length a), ← within (length a) 1 (length a + 1) members (omega arith) refl) (open-true (leb (length a) 64) (every memberFits a))
-
--- The points among them.
-ring-points : (r : Ring) → total (λ p. 1) r ≡ length r
-ring-points [] = refl
-ring-points (p ∷ r) = omega (arith, ring-points r)
-
-part-points : (p : Polygon) → total (total (λ p. 1)) p ≡ ringLengths p
-part-points [] = refl
-part-points (r ∷ p) = ap₂ _+_ (ring-points r) (part-points p)
-
-member-points : (m : Member) → total (total (total (λ p. 1))) m ≡ lengths m
-member-points [] = refl
-member-points (p ∷ m) = ap₂ _+_ (part-points p) (member-points m)
-
-all-points : (l : List Member) → total (total (total (total (λ p. 1)))) l ≡ allLengths l
-all-points [] = refl
-all-points (m ∷ l) = ap₂ _+_ (member-points m) (all-points l)
 
 -- ---- the table's pieces
 nested : (a b c : Bool) → elim a [ true ↦ elim b [ true ↦ elim c [ true ↦ true | false ↦ false ] | false ↦ false ] | false ↦ false ] ≡ a && b && c
@@ -316,17 +296,17 @@ spread h b w x y = simp (append-assoc, append-nil)
 
 piece : Emits triangleIn triangleFits (λ t. encode (pieceOf t)) (λ t. 3) emitPiece
 unfolding emitPiece manyIn encode encodeRing flatMap
-piece l = rw (many pointIn pointFits (λ p. encodePoint true (pairOf p)) (λ p. 1) emitPoint point 3 l) (go l)
+piece l = rw (many pointIn pointFits (λ p. encodePoint true (pairOf p)) (λ p. 1) length (refl, λ a l. omega arith) emitPoint point 3 l) (go l)
   where
     at-three : (p q s : Point) (l : List ℤ)
-        → again (p .x ∷ p .y ∷ q .x ∷ q .y ∷ s .x ∷ s .y ∷ l) (emitted (every pointFits) (flatMap (λ p. encodePoint true (pairOf p))) (total (λ p. 1)) (some (p ∷ q ∷ s ∷ [], l)))
+        → again (p .x ∷ p .y ∷ q .x ∷ q .y ∷ s .x ∷ s .y ∷ l) (emitted (every pointFits) (flatMap (λ p. encodePoint true (pairOf p))) length (some (p ∷ q ∷ s ∷ [], l)))
         ≡ emitted triangleFits (λ t. encode (pieceOf t)) (λ t. 3) (some (record { a = p; b = q; c = s }, l))
     at-three p q s l =
         let tests = nested (pointFits p) (pointFits q) (pointFits s) in
         let is = spread (header true Three 1) (bytesOf true 4 4) (encodePoint true (pairOf p)) (encodePoint true (pairOf q)) (encodePoint true (pairOf s)) in
         again-cond (every pointFits (p ∷ q ∷ s ∷ [])) (p .x ∷ p .y ∷ q .x ∷ q .y ∷ s .x ∷ s .y ∷ l) _ ∙ λ i. cond (tests i) (some (record { bytes = is i; points = 3; rest = l })) none
 
-    go : (l : List ℤ) → again l (emitted (every pointFits) (flatMap (λ p. encodePoint true (pairOf p))) (total (λ p. 1)) (manyIn pointIn 3 l))
+    go : (l : List ℤ) → again l (emitted (every pointFits) (flatMap (λ p. encodePoint true (pairOf p))) length (manyIn pointIn 3 l))
         ≡ emitted triangleFits (λ t. encode (pieceOf t)) (λ t. 3) (triangleIn l)
     go [] = refl
     go (a ∷ []) = refl
@@ -336,8 +316,8 @@ piece l = rw (many pointIn pointFits (λ p. encodePoint true (pairOf p)) (λ p. 
     go (a ∷ b ∷ c ∷ d ∷ x ∷ []) = refl
     go (a ∷ b ∷ c ∷ d ∷ x ∷ y ∷ l) = at-three (record { x = a; y = b }) (record { x = c; y = d }) (record { x = x; y = y }) l
 
-table : (t : ℕ) → Emits (manyIn triangleIn t) (every triangleFits) (flatMap (λ t. encode (pieceOf t))) (total (λ t. 3)) (emitMany emitPiece t)
-table = many triangleIn triangleFits (λ t. encode (pieceOf t)) (λ t. 3) emitPiece piece
+table : (t : ℕ) → Emits (manyIn triangleIn t) (every triangleFits) (flatMap (λ t. encode (pieceOf t))) (λ m. 3 * length m) (emitMany emitPiece t)
+table = many triangleIn triangleFits (λ t. encode (pieceOf t)) (λ t. 3) (λ m. 3 * length m) (omega arith, λ a l. omega arith) emitPiece piece
 
 -- What is behind the table's numbers.
 behind-all : (m : List Triangle) (r : List ℤ)
@@ -366,7 +346,7 @@ nothing t l h = rw (table t l) (go (manyIn triangleIn t l) refl)
 
     go : (x : Front (List Triangle)) → manyIn triangleIn t l ≡ x
         → cond (fromTo 2 1024 t) (ended (followed (joined (record { bytes = sheetHeader (getD l (6 * t) (pos 0)) ++ header true Tin t; points = 0; rest = l })
-        (uncounted (emitted (every triangleFits) (flatMap (λ t. encode (pieceOf t))) (total (λ t. 3)) x))) (emit 4))) none ≡ none
+        (uncounted (emitted (every triangleFits) (flatMap (λ t. encode (pieceOf t))) (λ m. 3 * length m) x))) (emit 4))) none ≡ none
     go none e = no-choice (fromTo 2 1024 t) none
     go (some (m, r)) e = step (fromTo 2 1024 t) (every triangleFits m) _ _ (h m r e)
 
@@ -429,19 +409,19 @@ emit-sheet (pos t ∷ l) = go (manyIn triangleIn t l) refl
     behind : (m : List Triangle) (r : List ℤ) → manyIn triangleIn t l ≡ some (m, r) → (y : Front (List Member)) → countedIn memberIn r ≡ y
         → emitSheet (pos t ∷ l) ≡ writtenFor (limited members (after y (λ p q. whole (record { table = m; polygons = p }) q)))
     behind m r e none u =
-        nothing t l (λ n s f. ap (emit 4) (parts (sym f ∙ e) .1) ∙ all r ∙ ap (emitted allFit (flatMap (λ m. encode (memberTree m))) (total (total (total (total (λ p. 1)))))) u)
+        nothing t l (λ n s f. ap (emit 4) (parts (sym f ∙ e) .1) ∙ all r ∙ ap (emitted allFit (flatMap (λ m. encode (memberTree m))) allLengths) u)
     behind m r e (some (p, q)) u =
         let len = many-length triangleIn t l m r e in
         let tin : List ℕ = flatMap (λ t. encode (pieceOf t)) m in
         let ms : List ℕ = flatMap (λ m. encode (memberTree m)) p in
-        let four = all r ∙ ap (emitted allFit (flatMap (λ m. encode (memberTree m))) (total (total (total (total (λ p. 1)))))) u in
-        let first = table t l ∙ ap (emitted (every triangleFits) (flatMap (λ t. encode (pieceOf t))) (total (λ t. 3))) e in
+        let four = all r ∙ ap (emitted allFit (flatMap (λ m. encode (memberTree m))) allLengths) u in
+        let first = table t l ∙ ap (emitted (every triangleFits) (flatMap (λ t. encode (pieceOf t))) (λ m. 3 * length m)) e in
         let head = sheetHeader (getD l (6 * t) (pos 0)) ++ header true Tin t in
         let is : head ++ tin ++ ms ≡ written (record { table = m; polygons = p })
         = rw (behind-table t l m r e .0, number-is r p q u, ← len) (sheet-bytes (record { table = m; polygons = p })) in
         ap (λ x. cond (fromTo 2 1024 t) (ended (followed (joined (record { bytes = head; points = 0; rest = l }) (uncounted x)) (emit 4))) none) first
-        ∙ both (fromTo 2 1024 t) (every triangleFits m) (allFit p) head tin ms (total (λ t. 3) m) (total (total (total (total (λ p. 1)))) p) r q four
-        ∙ rw (is, all-points p, ← len) (ends m p q)
+        ∙ both (fromTo 2 1024 t) (every triangleFits m) (allFit p) head tin ms (3 * length m) (allLengths p) r q four
+        ∙ rw (is, ← len) (ends m p q)
 
     go : (x : Front (List Triangle)) → manyIn triangleIn t l ≡ x
         → emitSheet (pos t ∷ l) ≡ writtenFor (limited members (after x (λ m k. after (countedIn memberIn k) (λ p q. whole (record { table = m; polygons = p }) q))))

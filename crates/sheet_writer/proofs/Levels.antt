@@ -29,11 +29,7 @@ use Rattle.sheet_writer.proofs.Numbers.{numbers-length, number-stands}
 
 -- The most that a level counts.
 high-small : (k : ℕ) → high k ≤ 4096
-high-small k = go (eqb k 1)
-  where
-    go : (b : Bool) → cond b 4096 64 ≤ 4096
-    go true = omega arith
-    go false = omega arith
+high-small k = by-cond (λ n. n ≤ 4096) (eqb k 1) 4096 64 (λ t. omega arith) (omega arith)
 
 count-small : (k n : ℕ) → fromTo (low k) (high k) n ≡ true → n ≤ 4096
 count-small k n e = let h = leb-true n (high k) (and-true (leb (low k) n) (leb n (high k)) e .1) in let s = high-small k in omega arith

@@ -6,7 +6,6 @@ use mathlib.Core.List.{List, [], _∷_}
 use mir.Syntax.{w32}
 use mir.Val.{toZ, sel}
 use Prim.Native.Nat.{ℕ, zero, suc, _+_, _-_, _*_, _/_, _≤_, _<_}
-use native.Mathlib.Nat.{not-suc-le-zero}
 use native.Mathlib.Numerals.{add-one}
 use native.Mathlib.Omega.{arith}
 use borrow.Author.Tests.{ltb-true, ltb-false, eqb-true, eqb-false, lt-ltb, le-ltb, le-leb, lt-leb, eq-eqb, ne-eqb}
@@ -30,10 +29,10 @@ numbers-length (a ∷ b ∷ c ∷ d ∷ l) = let h = numbers-length l in omega a
 
 pub numbers-at : (s : List ℕ) (i : ℕ) → 4 * i + 4 ≤ length s → drop i (numbersIn s) ≡ toZ w32 (wordAt true s (4 * i)) ∷ drop (suc i) (numbersIn s)
 unfolding numbersIn wordAt ordered
-numbers-at [] i h = absurd (let g : 1 ≤ 0 = omega arith in not-suc-le-zero g)
-numbers-at (a ∷ []) i h = absurd (let g : 1 ≤ 0 = omega arith in not-suc-le-zero g)
-numbers-at (a ∷ b ∷ []) i h = absurd (let g : 1 ≤ 0 = omega arith in not-suc-le-zero g)
-numbers-at (a ∷ b ∷ c ∷ []) i h = absurd (let g : 1 ≤ 0 = omega arith in not-suc-le-zero g)
+numbers-at [] i h = absurd (omega arith)
+numbers-at (a ∷ []) i h = absurd (omega arith)
+numbers-at (a ∷ b ∷ []) i h = absurd (omega arith)
+numbers-at (a ∷ b ∷ c ∷ []) i h = absurd (omega arith)
 numbers-at (a ∷ b ∷ c ∷ d ∷ l) zero h = refl
 numbers-at (a ∷ b ∷ c ∷ d ∷ l) (suc i) h =
     let e : 4 * suc i ≡ suc (suc (suc (suc (4 * i)))) = omega arith in
@@ -86,9 +85,9 @@ signed-same a b f g =
     by-order a 2_147_483_648
     (λ h. by-order b 2_147_483_648
     (λ k. ap₂ eqZ (signed-low a h) (signed-low b k))
-    (λ k. ap₂ eqZ (signed-low a h) (signed-high b k) ∙ sym (ne-eqb a b (λ e. not-suc-le-zero (let z : 1 ≤ 0 = omega arith in z)))))
+    (λ k. ap₂ eqZ (signed-low a h) (signed-high b k) ∙ sym (ne-eqb a b (λ e. omega arith))))
     (λ h. by-order b 2_147_483_648
-    (λ k. ap₂ eqZ (signed-high a h) (signed-low b k) ∙ sym (ne-eqb a b (λ e. not-suc-le-zero (let z : 1 ≤ 0 = omega arith in z))))
+    (λ k. ap₂ eqZ (signed-high a h) (signed-low b k) ∙ sym (ne-eqb a b (λ e. omega arith)))
     (λ k. ap₂ eqZ (signed-high a h) (signed-high b k) ∙ eqb-same (4_294_967_296 - suc a) (4_294_967_296 - suc b) a b (λ e. omega arith) (λ e. omega arith)))
 
 pub in-range-low : (b : ℕ) → b ≤ 10_000_000 → inRange (toZ w32 b) ≡ leb b 10_000_000

@@ -40,24 +40,18 @@ point-took (x ∷ y ∷ l) = go (inRange x && inRange y)
     go true = (omega arith, sixteen (patternOf x) (patternOf y))
     go false = omega arith
 
-joined-took : (n : ℕ) (l : List ℤ) (e : Emitted) (y : Option Emitted) → Took 1 l (some e) → Took n (e .rest) y → Took (suc n) l (joined e y)
-joined-took n l e none h k = omega arith
-joined-took n l e (some f) h k =
-    let a = h .0 in
-    let b = h .1 in
-    let c = k .0 in
-    let d = k .1 in
-    let j = length-append (e .bytes) (f .bytes) in
-    (omega arith, omega arith)
-
-followed-took : (n : ℕ) (l : List ℤ) (x : Option Emitted) → Took 1 l x → ((m : List ℤ) → Took n m (emitMany emitPoint n m)) → Took (suc n) l (followed x (emitMany emitPoint n))
-followed-took n l none h k = omega arith
-followed-took n l (some e) h k = joined-took n l e (emitMany emitPoint n (e .rest)) h (k (e .rest))
-
 many-took : (n : ℕ) (l : List ℤ) → Took n l (emitMany emitPoint n l)
 unfolding emitMany
 many-took zero l = (omega arith, refl)
-many-took (suc n) l = followed-took n l (emitPoint l) (point-took l) (λ m. many-took n m)
+many-took (suc n) l = go (emitPoint l) (point-took l) (many-took n)
+  where
+    both : (e : Emitted) (y : Option Emitted) → Took 1 l (some e) → Took n (e .rest) y → Took (suc n) l (joined e y)
+    both e none h k = omega arith
+    both e (some f) h k = (omega (arith, h .0, k .0), omega (arith, h .1, k .1, length-append (e .bytes) (f .bytes)))
+
+    go : (x : Option Emitted) → Took 1 l x → ((m : List ℤ) → Took n m (emitMany emitPoint n m)) → Took (suc n) l (followed x (emitMany emitPoint n))
+    go none h k = omega arith
+    go (some e) h k = both e (emitMany emitPoint n (e .rest)) h (k (e .rest))
 
 -- ---- the piece that three points give
 level-0 : (l : List ℤ) → emitMany (emit 0) 3 l ≡ emitMany emitPoint 3 l

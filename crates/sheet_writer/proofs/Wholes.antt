@@ -1,7 +1,7 @@
 -- The walk over a whole sheet: behind the headers the table, whose points are not counted, behind the table the polygons, and how it ends.
 -- Assumes nothing.
 use mathlib.Core.Path.{_≡_, refl, sym, _∙_, ap}
-use mathlib.Core.Bool.{Bool, true, false, _&&_, cond, true≢false}
+use mathlib.Core.Bool.{Bool, true, false, _&&_, cond}
 use mathlib.Core.List.{List, _++_}
 use mathlib.Core.Option.{Option, none, some}
 use Prim.Native.Nat.{ℕ, _+_, _-_, _≤_}
@@ -96,11 +96,7 @@ pub record Walked (nums : List ℤ) (o : List ℕ) (u : Walk) (b : List ℕ) : T
 
 module _ {nums : List ℤ} {o : List ℕ} {u : Walk} {b : List ℕ} (k : Walked nums o u b) where
   pub ends-wrong : u .good ≡ false → Ended (emitSheet nums) o u b
-  ends-wrong g = rw (k .is) (go (k .what) (k .went))
-    where
-      go : (x : Option Emitted) → Went x nums beginning o u b → Ended (ended x) o u b
-      go none h = h
-      go (some e) h = absurd (true≢false (sym (h .good) ∙ g))
+  ends-wrong g = rw (k .is, ill nums (k .what) beginning u o b (k .went) g) (g, went-length nums (k .what) beginning u o b (k .went))
 
   -- So many numbers are left over.
   left-over : (e : Emitted) → Gone e nums beginning o u b → length (e .rest) ≡ length nums - u .at
@@ -120,10 +116,7 @@ module _ {nums : List ℤ} {o : List ℕ} {u : Walk} {b : List ℕ} (k : Walked 
       go (some e) h = test e h (leb (length (e .rest)) 0) refl (leb (e .points) 4096) refl
 
   pub ends-well : u .good ≡ true → u .at ≡ length nums → u .points ≤ 4096 → Ended (emitSheet nums) o u b
-  ends-well g at-end few = rw (k .is) (go (k .what) (k .went))
-    where
-      go : (x : Option Emitted) → Went x nums beginning o u b → Ended (ended x) o u b
-      go none h = absurd (true≢false (sym g ∙ h .0))
-      go (some e) h =
-          let l = left-over e h in
-          rw (le-leb (length (e .rest)) 0 (omega arith), le-leb (e .points) 4096 (omega (arith, h .points-are))) (g, omega (arith, h .to-is), h .left)
+  ends-well g at-end few =
+      let y = well nums (k .what) beginning u o b (k .went) g in
+      let l = left-over (y .what) (y .gone) in
+      rw (k .is, y .is, le-leb (length (y .what .rest)) 0 (omega arith), le-leb (y .what .points) 4096 (omega (arith, y .gone .points-are))) (g, omega (arith, y .gone .to-is), y .gone .left)

@@ -147,9 +147,6 @@ one-* (negsuc n) = ap (λ k. negℤ (pos k)) (one-times (suc n))
     one-times k = omega arith
 
 -- ---- laws of the order
-pub <-+ : (a b c d : ℤ) → a <ℤ b → c ≤ℤ d → (a +ℤ c) <ℤ (b +ℤ d)
-<-+ a b c d h k = rw (parts a, parts b, parts c, parts d) (simp zify (omega (arith, ints)))
-
 pub *-pos : (a b : ℤ) → pos 0 <ℤ a → pos 0 <ℤ b → pos 0 <ℤ (a *ℤ b)
 *-pos (pos m) (pos n) h k = ltZ-yes (lt→ltb 0 (m * n) (mul-pos (ltb→lt 0 m (h .lt)) (ltb→lt 0 n (k .lt))))
 *-pos (pos m) (negsuc n) h k = absurd (k .lt)

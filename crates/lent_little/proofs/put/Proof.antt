@@ -36,24 +36,6 @@ loop-holds c =
     let m : a .n - 0 ≡ a .n = omega arith in
     (omega arith, refl, ap₂ (λ (j k : ℕ). sets (now (a .out)) j (bytes k (a .value))) e m)
 
-add-if1 : tie.Need-add-if1 Inv-loop μ-loop
-add-if1 c = omega arith
-
-cast-out : tie.Need-cast-out Inv-loop μ-loop
-cast-out c = omega arith
-
-add-out : tie.Need-add-out Inv-loop μ-loop
-add-out c = omega arith
-
-slice-write-out : tie.Need-slice-write-out Inv-loop μ-loop
-slice-write-out c = omega arith
-
-add-i : tie.Need-add-i Inv-loop μ-loop
-add-i c = omega arith
-
-loop-less : tie.Need-loop-less Inv-loop μ-loop
-loop-less c = omega arith
-
 loop-again : tie.Need-loop-again Inv-loop μ-loop
 loop-again c =
     let l = c .before .before .loop in
@@ -63,9 +45,6 @@ loop-again c =
       ap length e ∙ length-set (l .out) (a .to + l .i) (l .v % 256) ∙ l .inv .1,
       ap (λ (o : List ℕ). sets o (a .to + (l .i + 1)) (bytes (a .n - (l .i + 1)) (l .v / 256))) e ∙ one-more (l .out) (a .to) (l .i) (a .n) (l .v) (omega arith) ∙ l .inv .2,
     )
-
-same-length : tie.Need-same-length Inv-loop μ-loop
-same-length c = c .before .loop .inv .1
 
 returns : tie.Need-returns Inv-loop μ-loop
 returns c =
@@ -80,12 +59,12 @@ put-spec =
     Inv-loop
     μ-loop
     loop-holds
-    add-if1
-    cast-out
-    add-out
-    slice-write-out
-    add-i
-    loop-less
+    (λ c. omega arith)
+    (λ c. omega arith)
+    (λ c. omega arith)
+    (λ c. omega arith)
+    (λ c. omega arith)
+    (λ c. omega arith)
     loop-again
-    same-length
+    (λ c. c .before .loop .inv .1)
     returns)

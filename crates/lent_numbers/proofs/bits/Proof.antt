@@ -7,9 +7,6 @@ use borrow.Author.Needs.{needs}
 use Rattle.lent_numbers.proofs.bits.Statement.{statement}
 use Rattle.lent_numbers.proofs.bits.Tie as tie
 
-add-result : tie.Need-add-result
-add-result c = search needs
-
 returns : tie.Need-returns
 returns c = rw (lt-ltb _ _ (c .if1 .taken)) (omega arith)
 
@@ -17,4 +14,4 @@ returns-2 : tie.Need-returns-2
 returns-2 c = let h : 10_000_000 ≤ c .before .args .h = omega arith in rw (le-ltb _ _ h) refl
 
 pub bits-spec : {M : Type 1} → statement M
-bits-spec = tie.close (tie.spec add-result returns returns-2)
+bits-spec = tie.close (tie.spec (λ c. search needs) returns returns-2)

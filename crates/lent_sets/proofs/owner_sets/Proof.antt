@@ -15,15 +15,6 @@ use Rattle.lent_sets.proofs.owner_sets.Tie as tie
 returns : tie.Need-returns
 returns c = answered-short _ _ _ (flatMap setBytes (now (c .before .before .before .args .sets))) refl (omega (arith, all-length 8 setBytes set-length (now (c .before .before .before .args .sets))))
 
-write-sets-requires : tie.Need-write-sets-requires
-write-sets-requires c κs = search needs
-
-mul-result : tie.Need-mul-result
-mul-result c = search needs
-
-same-length : tie.Need-same-length
-same-length c = search needs
-
 returns-2 : tie.Need-returns-2
 returns-2 c =
     let s = now (c .before .before .before .before .before .before .before .args .sets) in
@@ -32,4 +23,4 @@ returns-2 c =
     (c .before .before .write-sets .ensures ∙ ap₂ (λ a b. flatMap setBytes a ++ drop b (now (c .before .before .before .before .before .before .before .args .out))) (take-all (length s) s (omega arith)) (sym z))
 
 pub owner-sets-spec : {M : Type 1} → statement M
-owner-sets-spec = tie.close (tie.spec returns write-sets-requires mul-result same-length returns-2)
+owner-sets-spec = tie.close (tie.spec returns (λ c κs. search needs) (λ c. search needs) (λ c. search needs) returns-2)

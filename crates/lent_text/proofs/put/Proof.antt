@@ -5,17 +5,8 @@ use Rattle.lent_text.proofs.Texts.{byte-put}
 use Rattle.lent_text.proofs.put.Statement.{statement}
 use Rattle.lent_text.proofs.put.Tie as tie
 
-slice-write-text : tie.Need-slice-write-text
-slice-write-text c = search needs
-
-add-result : tie.Need-add-result
-add-result c = search needs
-
-same-length : tie.Need-same-length
-same-length c = search needs
-
 returns : tie.Need-returns
 returns c = record { place = refl; text = byte-put _ _ _ (c .pre) }
 
 pub put-spec : {M : Type 1} → statement M
-put-spec = tie.close (tie.spec slice-write-text add-result same-length returns)
+put-spec = tie.close (tie.spec (λ c. search needs) (λ c. search needs) (λ c. search needs) returns)

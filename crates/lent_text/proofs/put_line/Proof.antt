@@ -5,53 +5,35 @@ use Rattle.lent_text.proofs.Texts.{put-behind}
 use Rattle.lent_text.proofs.put_line.Statement.{statement}
 use Rattle.lent_text.proofs.put_line.Tie as tie
 
-put-word-requires : tie.Need-put-word-requires
-put-word-requires c κs = search needs
-
-put-requires : tie.Need-put-requires
-put-requires c κs = search needs
-
-put-number-requires : tie.Need-put-number-requires
-put-number-requires c κs = search needs
-
-put-requires-2 : tie.Need-put-requires-2
-put-requires-2 c κs = search needs
-
-put-number-requires-2 : tie.Need-put-number-requires-2
-put-number-requires-2 c κs = search needs
-
-put-requires-3 : tie.Need-put-requires-3
-put-requires-3 c κs = search needs
-
-same-length : tie.Need-same-length
-same-length c = search needs
-
 returns : tie.Need-returns
 returns c =
-    let word = c .before .before .before .before .before .before .before .before .before .before .before .before .before .before .before .before .before .before .before .before .before .before .put-word in
-    let blank = c .before .before .before .before .before .before .before .before .before .before .before .before .before .before .before .before .before .before .put in
-    let one = c .before .before .before .before .before .before .before .before .before .before .before .before .before .before .put-number in
-    let blank2 = c .before .before .before .before .before .before .before .before .before .before .put2 in
-    let two = c .before .before .before .before .before .before .put-number2 in
-    let feed = c .before .before .put3 in
-    let p = c .before .before .before .before .before .before .before .before .before .before .before .before .before .before .before .before .before .before .before .before .before .before .before .before .before .before .pre in (
-      omega (arith, word .ensures .place, blank .ensures .place, one .ensures .0, blank2 .ensures .place, two .ensures .0, feed .ensures .place),
-      put-behind (omega arith)
-          (put-behind (omega arith)
-          (put-behind (omega arith) (word .ensures) (put-behind (omega (arith, word .ensures .place, word .kept .0)) (blank .ensures) (one .ensures .1)))
-          (put-behind (omega (arith, word .ensures .place, blank .ensures .place, one .ensures .0, word .kept .0, blank .kept .0, one .kept .0)) (blank2 .ensures) (two .ensures .1)))
-          (feed .ensures),
-    )
+    let feed = c .before .before in
+    let two = feed .before .before .before .before in
+    let blank2 = two .before .before .before .before in
+    let one = blank2 .before .before .before .before in
+    let blank = one .before .before .before .before in
+    let first = blank .before .before .before .before in
+    let room = first .before .before .before .before .pre in
+    let word = first .put-word in
+    let p = word .ensures in
+    let q = blank .put .ensures in
+    let r = one .put-number .ensures in
+    let s = blank2 .put2 .ensures in
+    let t = two .put-number2 .ensures in
+    let u = feed .put3 .ensures in
+    let v = put-behind (omega (arith, p .place, word .kept .0)) q (r .1) in
+    let x = put-behind (omega (arith, p .place, q .place, r .0, word .kept .0, blank .put .kept .0, one .put-number .kept .0)) s (t .1) in
+    (omega (arith, p .place, q .place, r .0, s .place, t .0, u .place), put-behind (omega arith) (put-behind (omega arith) (put-behind (omega arith) p v) x) u)
 
 pub put-line-spec : {M : Type 1} → statement M
 put-line-spec =
     tie.close
     (tie.spec
-    put-word-requires
-    put-requires
-    put-number-requires
-    put-requires-2
-    put-number-requires-2
-    put-requires-3
-    same-length
+    (λ c κs. search needs)
+    (λ c κs. search needs)
+    (λ c κs. search needs)
+    (λ c κs. search needs)
+    (λ c κs. search needs)
+    (λ c κs. search needs)
+    (λ c. search needs)
     returns)

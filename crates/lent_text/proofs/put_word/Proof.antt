@@ -17,24 +17,6 @@ Inv-loop text₀ at word i₀ text i = (i ≤ length word) × (length text ≡ l
 abbrev μ-loop : tie.MeasureT-loop
 μ-loop text₀ at word i₀ text i = length word - i
 
-loop-holds : tie.Need-loop-holds Inv-loop μ-loop
-loop-holds c = (omega arith, refl, paste-zero (now (c .args .text)) (c .args .at) (now (c .args .word)))
-
-shared-slice-read-text : tie.Need-shared-slice-read-text Inv-loop μ-loop
-shared-slice-read-text c = search needs
-
-add-text : tie.Need-add-text Inv-loop μ-loop
-add-text c = search needs
-
-slice-write-text : tie.Need-slice-write-text Inv-loop μ-loop
-slice-write-text c = search needs
-
-add-i : tie.Need-add-i Inv-loop μ-loop
-add-i c = search needs
-
-loop-less : tie.Need-loop-less Inv-loop μ-loop
-loop-less c = search needs
-
 loop-again : tie.Need-loop-again Inv-loop μ-loop
 loop-again c =
     let l = c .before .before .loop in
@@ -46,12 +28,6 @@ loop-again c =
           ∙ paste-suc (now (a .text)) (a .at) (now (a .word)) (l .i) 0 (omega (arith, c .before .before .before .pre, c .before .loop-test)) (omega (arith, c .before .loop-test))
           ∙ ap (paste (now (a .text)) (a .at) (now (a .word))) (sym (add-one (l .i))),
     )
-
-add-result : tie.Need-add-result Inv-loop μ-loop
-add-result c = search needs
-
-same-length : tie.Need-same-length Inv-loop μ-loop
-same-length c = search needs
 
 returns : tie.Need-returns Inv-loop μ-loop
 returns c =
@@ -65,13 +41,13 @@ put-word-spec =
     (tie.spec
     Inv-loop
     μ-loop
-    loop-holds
-    shared-slice-read-text
-    add-text
-    slice-write-text
-    add-i
-    loop-less
+    (λ c. (omega arith, refl, paste-zero (now (c .args .text)) (c .args .at) (now (c .args .word))))
+    (λ c. search needs)
+    (λ c. search needs)
+    (λ c. search needs)
+    (λ c. search needs)
+    (λ c. search needs)
     loop-again
-    add-result
-    same-length
+    (λ c. search needs)
+    (λ c. search needs)
     returns)

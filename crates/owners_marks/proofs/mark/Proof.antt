@@ -20,36 +20,12 @@ Inv-loop labels k sets₀ t₀ sets t = (t ≤ length sets₀) × (length sets �
 abbrev μ-loop : tie.MeasureT-loop
 μ-loop labels k sets₀ t₀ sets t = length sets₀ - t
 
-loop-holds : tie.Need-loop-holds Inv-loop μ-loop
-loop-holds c = (omega arith, refl, refl)
-
-mul-with-mark : tie.Need-mul-with-mark Inv-loop μ-loop
-mul-with-mark c = search needs
-
-slice-read-with-mark : tie.Need-slice-read-with-mark Inv-loop μ-loop
-slice-read-with-mark c = omega arith
-
-shared-slice-read-with-mark : tie.Need-shared-slice-read-with-mark Inv-loop μ-loop
-shared-slice-read-with-mark c = omega arith
-
 with-mark-requires : tie.Need-with-mark-requires Inv-loop μ-loop
 with-mark-requires c κs =
     let l = c .before .before .before .loop in
     let a = c .before .before .before .before .before .before in
     let n = next-set (a .args .k) (l .t) (now (a .args .labels)) (now (a .args .sets)) (omega arith) (omega arith) in
     (a .pre .1, rw (l .inv .2, n) (all-at (λ x. x < 2 ^ a .args .k) 0 (now (a .args .sets)) (l .t) (a .pre .2) (omega arith)))
-
-mul-sets : tie.Need-mul-sets Inv-loop μ-loop
-mul-sets c = search needs
-
-slice-write-sets : tie.Need-slice-write-sets Inv-loop μ-loop
-slice-write-sets c = omega arith
-
-add-t : tie.Need-add-t Inv-loop μ-loop
-add-t c = omega arith
-
-loop-less : tie.Need-loop-less Inv-loop μ-loop
-loop-less c = omega arith
 
 loop-again : tie.Need-loop-again Inv-loop μ-loop
 loop-again c =
@@ -59,9 +35,6 @@ loop-again c =
     let x = now (a .args .sets) in
     let n = next-set (a .args .k) (l .t) s x (omega arith) (omega arith) in
     (omega arith, length-set (l .sets) (l .t) (c .with-mark .result) ∙ l .inv .1, rw (c .with-mark .ensures, l .inv .2, n, add-one) (one-more (a .args .k) (l .t) s x (omega arith) (omega arith)))
-
-same-length : tie.Need-same-length Inv-loop μ-loop
-same-length c = c .before .loop .inv .1
 
 returns : tie.Need-returns Inv-loop μ-loop
 returns c =
@@ -77,15 +50,15 @@ mark-spec =
     (tie.spec
     Inv-loop
     μ-loop
-    loop-holds
-    mul-with-mark
-    slice-read-with-mark
-    shared-slice-read-with-mark
+    (λ c. (omega arith, refl, refl))
+    (λ c. search needs)
+    (λ c. omega arith)
+    (λ c. omega arith)
     with-mark-requires
-    mul-sets
-    slice-write-sets
-    add-t
-    loop-less
+    (λ c. search needs)
+    (λ c. omega arith)
+    (λ c. omega arith)
+    (λ c. omega arith)
     loop-again
-    same-length
+    (λ c. c .before .loop .inv .1)
     returns)

@@ -10,9 +10,6 @@ use Rattle.owners_marks.proofs.standing_of.Tie as tie
 returns : tie.Need-returns
 returns c = sym (none-stands (c .before .args .set) (c .before .fits .set .fits) (c .if1 .taken))
 
-add-k : tie.Need-add-k
-add-k c = omega (arith, trailing-le 64 (c .before .args .set))
-
 returns-2 : tie.Need-returns-2
 returns-2 c = sym (one-stands (c .before .before .args .set) (c .before .before .fits .set .fits) (c .if2 .taken))
 
@@ -25,4 +22,4 @@ returns-3 c = sym (more-stand (c .before .before .args .set) (c .before .before 
     many (suc (suc n)) p q = omega arith
 
 pub standing-of-spec : {M : Type 1} → statement M
-standing-of-spec = tie.close (tie.spec returns add-k returns-2 returns-3)
+standing-of-spec = tie.close (tie.spec returns (λ c. omega (arith, trailing-le 64 (c .before .args .set))) returns-2 returns-3)

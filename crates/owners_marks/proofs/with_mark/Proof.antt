@@ -11,9 +11,6 @@ use Rattle.owners_marks.proofs.with_mark.Tie as tie
 shifted : (k : ℕ) → k < 64 → 1 * 2 ^ k % 2 ^ 64 ≡ 2 ^ k
 shifted k h = shl-exact {a = 1} 1 k 64 (omega arith) (omega arith) ∙ one-mul (2 ^ k)
 
-shl-result : tie.Need-shl-result
-shl-result c = search needs
-
 add-result : tie.Need-add-result
 add-result c =
     let k = c .before .args .k in
@@ -28,4 +25,4 @@ returns-2 : tie.Need-returns-2
 returns-2 c = rw (c .if1 .left) (omega arith)
 
 pub with-mark-spec : {M : Type 1} → statement M
-with-mark-spec = tie.close (tie.spec shl-result add-result returns returns-2)
+with-mark-spec = tie.close (tie.spec (λ c. search needs) add-result returns returns-2)

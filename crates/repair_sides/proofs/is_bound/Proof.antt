@@ -8,23 +8,11 @@ use Rattle.repair_sides.proofs.Laying.{not-own, none-across, some-acros
 use Rattle.repair_sides.proofs.is_bound.Statement.{statement}
 use Rattle.repair_sides.proofs.is_bound.Tie as tie
 
-shared-slice-read-if1 : tie.Need-shared-slice-read-if1
-shared-slice-read-if1 c = search needs
-
 returns : tie.Need-returns
 returns c = let s = c .before .before .args in not-own (now (s .opposite)) (now (s .owners)) (s .polygon) (s .k) (c .if1 .taken)
 
-mul-o : tie.Need-mul-o
-mul-o c = search needs
-
-shared-slice-read-o : tie.Need-shared-slice-read-o
-shared-slice-read-o c = search needs
-
 returns-2 : tie.Need-returns-2
 returns-2 c = let s = c .before .before .before .before .args in none-across (now (s .opposite)) (now (s .owners)) (s .polygon) (s .k) (c .before .before .if1 .left) (c .if2 .taken)
-
-sub-result : tie.Need-sub-result
-sub-result c = search needs
 
 shared-slice-read-result : tie.Need-shared-slice-read-result
 shared-slice-read-result c =
@@ -38,11 +26,11 @@ pub is-bound-spec : {M : Type 1} → statement M
 is-bound-spec =
     tie.close
     (tie.spec
-    shared-slice-read-if1
+    (λ c. search needs)
     returns
-    mul-o
-    shared-slice-read-o
+    (λ c. search needs)
+    (λ c. search needs)
     returns-2
-    sub-result
+    (λ c. search needs)
     shared-slice-read-result
     returns-3)

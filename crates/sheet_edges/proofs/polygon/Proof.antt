@@ -15,38 +15,14 @@ Inv-loop numbers at from₀ to₀ laid₀ left₀ from to laid left = Going part
 abbrev μ-loop : tie.MeasureT-loop
 μ-loop numbers at from₀ to₀ laid₀ left₀ from to laid left = left
 
-add-left : tie.Need-add-left Inv-loop μ-loop
-add-left c = let h = room-first partNumbers (c .before .before .before .pre) in omega arith
-
-mul-left : tie.Need-mul-left Inv-loop μ-loop
-mul-left c = let h = room-first partNumbers (c .before .before .before .pre) in omega arith
-
-shared-slice-read-left : tie.Need-shared-slice-read-left Inv-loop μ-loop
-shared-slice-read-left c = room-first partNumbers (c .before .before .before .before .pre) .0
-
-sub-left : tie.Need-sub-left Inv-loop μ-loop
-sub-left c = room-first partNumbers (c .before .before .before .before .pre) .1
-
 loop-holds : tie.Need-loop-holds Inv-loop μ-loop
 loop-holds c = let a = c .before .before .before .before .args in going-begin partNumbers (flatMap (flatMap edges)) (a .numbers .now) (a .at) 0 (a .from .now) (a .to .now)
 
 part-requires : tie.Need-part-requires Inv-loop μ-loop
 part-requires c κs = going-room (c .before .before .before .before .before .before .before .before .pre) (c .before .before .before .loop .inv) (omega arith)
 
-sub-left-2 : tie.Need-sub-left-2 Inv-loop μ-loop
-sub-left-2 c = omega arith
-
-loop-less : tie.Need-loop-less Inv-loop μ-loop
-loop-less c = omega arith
-
 loop-again : tie.Need-loop-again Inv-loop μ-loop
 loop-again c = going-more (c .before .before .before .before .before .before .before .before .loop .inv) (omega arith) (c .before .before .before .before .part .ensures)
-
-same-length : tie.Need-same-length Inv-loop μ-loop
-same-length c = from-length (c .before .loop .inv .stored)
-
-same-length-2 : tie.Need-same-length-2 Inv-loop μ-loop
-same-length-2 c = to-length (c .before .loop .inv .stored)
 
 returns : tie.Need-returns Inv-loop μ-loop
 returns c = lays-down (c .before .before .before .before .before .before .pre) (going-done (flatMap edges) (c .before .loop .inv) (omega arith))
@@ -57,15 +33,15 @@ polygon-spec =
     (tie.spec
     Inv-loop
     μ-loop
-    add-left
-    mul-left
-    shared-slice-read-left
-    sub-left
+    (λ c. let h = room-first partNumbers (c .before .before .before .pre) in omega arith)
+    (λ c. let h = room-first partNumbers (c .before .before .before .pre) in omega arith)
+    (λ c. room-first partNumbers (c .before .before .before .before .pre) .0)
+    (λ c. room-first partNumbers (c .before .before .before .before .pre) .1)
     loop-holds
     part-requires
-    sub-left-2
-    loop-less
+    (λ c. omega arith)
+    (λ c. omega arith)
     loop-again
-    same-length
-    same-length-2
+    (λ c. from-length (c .before .loop .inv .stored))
+    (λ c. to-length (c .before .loop .inv .stored))
     returns)

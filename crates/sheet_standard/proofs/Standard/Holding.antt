@@ -13,10 +13,10 @@ use Rattle.wkb_kinds.specs.Kinds.{typeOf}
 use Rattle.sheet.specs.Reading.{Taken}
 use Rattle.sheet_standard.specs.Limits.{memberOf}
 use Rattle.sheet_standard.proofs.Standard.Fields.{heading, heading-is}
-use Rattle.sheet_standard.proofs.Standard.Left.{Left, leftBytes, BelowAt, Stands, Raw, Good, front, outcome}
-use Rattle.sheet_standard.proofs.Standard.Levels.{Level, Inside}
+use Rattle.sheet_standard.proofs.Standard.Left.{Left, leftBytes, BelowAt, Stands, Raw, Good, front, outcome, no-polygon}
+use Rattle.sheet_standard.proofs.Standard.Levels.{Level, Inside, inside-members}
 use Rattle.sheet_standard.proofs.Standard.Pending.{Pending, pendingOutcome}
-use Rattle.sheet_standard.proofs.Standard.Entered.{put, entered, Children, put-bytes, put-open, put-members, below-put, Zero, vacant, entered-going}
+use Rattle.sheet_standard.proofs.Standard.Entered.{put, entered, Children, put-bytes, put-open, below-put, Zero, vacant, entered-going}
 
 module _ (s : List ℕ) (d : Cursor) (b : Taken) (r : Raw s d b) (closed : d .header ≡ false) (l : Level) (i : Inside l) (z : Zero l d) (n : ℕ) (one : 1 ≤ n) (little : Bool) (kind : Kind) (nine : d .at + 9 ≤ length s) where
   pub holding-good : Good s (entered l n d) b
@@ -28,22 +28,17 @@ module _ (s : List ℕ) (d : Cursor) (b : Taken) (r : Raw s d b) (closed : d .he
   module _ (gs : Geometries) (w : Left) (number : count gs ≡ n) (fit : Children l gs) (below : BelowAt d w) where
     pub holding-outcome : outcome (entered l n d) b [] [] (put l gs w) ≡ pendingOutcome d b (holding little kind gs) w
     unfolding outcome pendingOutcome front flatMap memberOf
-    holding-outcome = rw (closed, put-open l gs w i (vacant l d w z below), put-members l gs w) refl
+    holding-outcome = rw (closed, put-open l gs w i (vacant l d w z below), inside-members l (λ x. gs) w i) refl
 
     pub holding-stands : d .points ≡ 0 → d .rings ≡ 0 → drop (d .at + 9) s ≡ encodeAll gs ++ leftBytes w → Pending s d (holding little kind gs) w → Stands s (entered l n d) b [] [] (put l gs w)
     unfolding flatMap memberOf
     holding-stands p q e h =
         let v = vacant l d w z below in
         record {
-          points-number = sym p;
-          rings-number = sym q;
-          below = below-put l n d gs w fit number below;
-          bytes = e ∙ sym (put-bytes l gs w i v);
-          points-fit = tt;
-          closes = tt;
-          rings-fit = tt;
+          polygon = no-polygon p q (e ∙ sym (put-bytes l gs w i v));
+          below = below-put l n d gs w (number, fit) below;
           polygons-fit = rw (put-open l gs w i v) (h .polygons-fit);
-          total-fits = rw (put-open l gs w i v, put-members l gs w) (let t = h .total-fits in omega arith);
+          total-fits = rw (put-open l gs w i v, inside-members l (λ x. gs) w i) (let t = h .total-fits in omega arith);
         }
 
     pub holding-pends : drop (d .at) s ≡ heading little (typeOf kind) n ++ drop (d .at + 9) s → Stands s (entered l n d) b [] [] (put l gs w) → Pending s d (holding little kind gs) w
@@ -52,8 +47,8 @@ module _ (s : List ℕ) (d : Cursor) (b : Taken) (r : Raw s d b) (closed : d .he
         let v = vacant l d w z below in
         record {
           below = below;
-          bytes = e ∙ ap (λ l. heading little (typeOf kind) n ++ l) (h .bytes ∙ put-bytes l gs w i v)
+          bytes = e ∙ ap (λ l. heading little (typeOf kind) n ++ l) (h .polygon .bytes ∙ put-bytes l gs w i v)
               ∙ rw (heading-is little kind (count gs), number) (sym (append-assoc (heading little (typeOf kind) n) (encodeAll gs) (leftBytes w)));
           polygons-fit = rw (put-open l gs w i v) at (h .polygons-fit);
-          total-fits = let t = rw (put-open l gs w i v, put-members l gs w) at (h .total-fits) in omega arith;
+          total-fits = let t = rw (put-open l gs w i v, inside-members l (λ x. gs) w i) at (h .total-fits) in omega arith;
         }

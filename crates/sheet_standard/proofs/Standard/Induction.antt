@@ -12,26 +12,38 @@ use Rattle.wkb.specs.Standard.{Pair, Geometries, none, _then_, count, encodeAll
 use Rattle.wkb.proofs.Complete.{Complete, complete-is}
 use Rattle.sheet.specs.Reading.{Taken}
 use Rattle.sheet.specs.Going.{reading}
-use Rattle.sheet_standard.specs.Limits.{membersOf, MembersFit}
+use Rattle.sheet_standard.specs.Limits.{membersOf, Each, MembersFit}
 use Rattle.sheet_standard.proofs.Standard.Fields.{Bytes}
 use Rattle.sheet_standard.proofs.Standard.Steps.{end-goes, end-back}
-use Rattle.sheet_standard.proofs.Standard.Left.{Left, leftBytes, leftOpen, Stands, Good, front, leftNumbers, outcome, Ends, Found, Through, Back}
+use Rattle.sheet_standard.proofs.Standard.Left.{Left, only, leftBytes, leftOpen, Top, Group, Below, Stands, Good, front, leftNumbers, outcome, Ends, no-polygon, Found, Through, Back}
 use Rattle.sheet_standard.proofs.Standard.Points.{no-header, point-through, point-return}
 use Rattle.sheet_standard.proofs.Standard.Rings.{ring-through, ring-return}
 use Rattle.sheet_standard.proofs.Standard.Levels.{part, own, second, third, fourth}
 use Rattle.sheet_standard.proofs.Standard.Members.{geometry-through, geometry-return}
 
--- Nothing is left.
-abbrev nothing-left : Left
-nothing-left = record { parts = none; fourth = none; third = none; second = none; members = none }
+-- The counts of a place where nothing of the member is left.
+pub below-only : (c : Cursor) {n : ℕ} (ms : Geometries) → Complete c → Group (Each Top) n ms → Below (c .parts) (c .fourth) (c .third) (c .second) n (only ms)
+unfolding MembersFit
+below-only c ms k m = record { parts-are = (sym (k .no-parts), tt); fourth-are = (sym (k .no-fourth), tt); third-are = (sym (k .no-third), tt); second-are = (sym (k .no-second), tt); members-are = m }
 
-end-through : (s : List ℕ) (c : Cursor) (b : Taken) → Good s c b → Complete c → Stands s c b [] [] nothing-left → Ends (reading s c b) (outcome c b [] [] nothing-left)
+only-below : {s : List ℕ} {c : Cursor} {b : Taken} {ms : Geometries} → c .header ≡ false → Stands s c b [] [] (only ms) → Complete c
+only-below e h = record {
+  no-header = e;
+  no-second = sym (h .below .second-are .0);
+  no-third = sym (h .below .third-are .0);
+  no-fourth = sym (h .below .fourth-are .0);
+  no-parts = sym (h .below .parts-are .0);
+  no-rings = sym (h .polygon .rings-number);
+  no-points = sym (h .polygon .points-number);
+}
+
+end-through : (s : List ℕ) (c : Cursor) (b : Taken) → Good s c b → Complete c → Stands s c b [] [] (only none) → Ends (reading s c b) (outcome c b [] [] (only none))
 unfolding outcome front flatMap leftOpen leftNumbers leftBytes membersOf encodeAll
 end-through s c b g k h =
     let m = g .raw .marked (k .no-header) in
     let z : c .polygons + 0 ≡ c .polygons = omega arith in
     let member : 1 ≤ c .member = let m = g .raw .member in omega arith in
-    let e : c .at ≡ length s = omega (arith, g .raw .within, length-drop (c .at) s, ap length (h .bytes)) in
+    let e : c .at ≡ length s = omega (arith, g .raw .within, length-drop (c .at) s, ap length (h .polygon .bytes)) in
     rw (end-goes s c b (k .no-points) (k .no-rings) member (complete-is c k) e)
     (refl, rw (k .no-header, z, ← m .1, set-getD (b .numbers) (b .mark) 0) (sym (append-nil (map millimetres (b .numbers)))))
 
@@ -42,49 +54,31 @@ module _ (s : List ℕ) (c : Cursor) (b : Taken) (g : Good s c b) (later : Throu
   dispatch (p ∷ ps) rs p4 t e q4 q3 q2 ms h = point-through s c b p ps rs _ (g .raw) h later
   dispatch [] (r ∷ rs) p4 t e q4 q3 q2 ms h = ring-through s c b r rs _ (g .raw) h later
   dispatch [] [] (x then xs) t e q4 q3 q2 ms h =
-      let some : 0 < c .parts = let n = h .below .parts-number in omega arith in
+      let some : 0 < c .parts = let n = h .below .parts-are .0 in omega arith in
       geometry-through s c b part
-      (record { raw = g .raw; no-points = sym (h .points-number); no-rings = sym (h .rings-number); at-it = (no-header (g .raw) (λ e. let z = g .raw .own e .2 in absurd (omega arith)), some) })
+      (record { raw = g .raw; no-points = sym (h .polygon .points-number); no-rings = sym (h .polygon .rings-number); at-it = (no-header (g .raw) (λ e. let z = g .raw .own e .2 in absurd (omega arith)), some) })
       x (record { parts = xs; fourth = q4; third = q3; second = q2; members = ms }) h later
-  dispatch [] [] none true e q4 q3 q2 none h = let n : 0 ≡ c .members + 1 = rw e at (h .below .members-number) in absurd (omega arith)
+  dispatch [] [] none true e q4 q3 q2 none h = let n : 0 ≡ c .members + 1 = rw e at (h .below .members-are .0) in absurd (omega arith)
   dispatch [] [] none true e q4 q3 q2 (x then xs) h =
-      geometry-through s c b own (record { raw = g .raw; no-points = sym (h .points-number); no-rings = sym (h .rings-number); at-it = (e, sym (h .below .parts-number)) })
+      geometry-through s c b own (record { raw = g .raw; no-points = sym (h .polygon .points-number); no-rings = sym (h .polygon .rings-number); at-it = (e, sym (h .below .parts-are .0)) })
       x (record { parts = none; fourth = q4; third = q3; second = q2; members = xs }) h later
   dispatch [] [] none false e (x then xs) q3 q2 ms h =
-      let some : 0 < c .fourth = let n = h .below .fourth-number in omega arith in
-      geometry-through s c b fourth (record { raw = g .raw; no-points = sym (h .points-number); no-rings = sym (h .rings-number); at-it = (e, sym (h .below .parts-number), some) })
+      let some : 0 < c .fourth = let n = h .below .fourth-are .0 in omega arith in
+      geometry-through s c b fourth (record { raw = g .raw; no-points = sym (h .polygon .points-number); no-rings = sym (h .polygon .rings-number); at-it = (e, sym (h .below .parts-are .0), some) })
       x (record { parts = none; fourth = xs; third = q3; second = q2; members = ms }) h later
   dispatch [] [] none false e none (x then xs) q2 ms h =
-      let some : 0 < c .third = let n = h .below .third-number in omega arith in
-      geometry-through s c b third (record { raw = g .raw; no-points = sym (h .points-number); no-rings = sym (h .rings-number); at-it = (e, sym (h .below .parts-number), sym (h .below .fourth-number), some) })
+      let some : 0 < c .third = let n = h .below .third-are .0 in omega arith in
+      geometry-through s c b third (record { raw = g .raw; no-points = sym (h .polygon .points-number); no-rings = sym (h .polygon .rings-number); at-it = (e, sym (h .below .parts-are .0), sym (h .below .fourth-are .0), some) })
       x (record { parts = none; fourth = none; third = xs; second = q2; members = ms }) h later
   dispatch [] [] none false e none none (x then xs) ms h =
-      let some : 0 < c .second = let n = h .below .second-number in omega arith in
-      geometry-through s c b second (record { raw = g .raw; no-points = sym (h .points-number); no-rings = sym (h .rings-number); at-it = (e, sym (h .below .parts-number), sym (h .below .fourth-number), sym (h .below .third-number), some) })
+      let some : 0 < c .second = let n = h .below .second-are .0 in omega arith in
+      geometry-through s c b second (record { raw = g .raw; no-points = sym (h .polygon .points-number); no-rings = sym (h .polygon .rings-number); at-it = (e, sym (h .below .parts-are .0), sym (h .below .fourth-are .0), sym (h .below .third-are .0), some) })
       x (record { parts = none; fourth = none; third = none; second = xs; members = ms }) h later
   dispatch [] [] none false e none none none (x then xs) h =
-      let k : Complete c = record {
-        no-header = e;
-        no-second = sym (h .below .second-number);
-        no-third = sym (h .below .third-number);
-        no-fourth = sym (h .below .fourth-number);
-        no-parts = sym (h .below .parts-number);
-        no-rings = sym (h .rings-number);
-        no-points = sym (h .points-number);
-      } in
-      let n : suc (count xs) ≡ c .members + 0 = rw e at (h .below .members-number) in
-      let z = g .going (complete-is c k) in
+      let n : suc (count xs) ≡ c .members + 0 = rw e at (h .below .members-are .0) in
+      let z = g .going (complete-is c (only-below e h)) in
       absurd (omega arith)
-  dispatch [] [] none false e none none none none h =
-      end-through s c b g (record {
-        no-header = e;
-        no-second = sym (h .below .second-number);
-        no-third = sym (h .below .third-number);
-        no-fourth = sym (h .below .fourth-number);
-        no-parts = sym (h .below .parts-number);
-        no-rings = sym (h .rings-number);
-        no-points = sym (h .points-number);
-      }) h
+  dispatch [] [] none false e none none none none h = end-through s c b g (only-below e h) h
 
 -- Where lists stand at a place under a member, reading ends with code 0 and their numbers.
 pub members-through : (n : ℕ) (s : List ℕ) (c : Cursor) (b : Taken) (ps : List Pair) (rs : List (List Pair)) (w : Left) → length s < n + c .at → Good s c b → Stands s c b ps rs w → Ends (reading s c b) (outcome c b ps rs w)
@@ -94,35 +88,19 @@ members-through (suc n) s c b ps rs w l g h =
 
 -- ---- backward
 end-return : (s : List ℕ) (c : Cursor) (b : Taken) → Good s c b → Complete c → reading s c b .code ≡ 0 → Found s c b
-unfolding flatMap leftOpen leftBytes membersOf encodeAll MembersFit
+unfolding flatMap leftOpen leftBytes membersOf encodeAll
 end-return s c b g k code =
     let member : 1 ≤ c .member = let m = g .raw .member in omega arith in
     let e = end-back s c b (k .no-points) (k .no-rings) member (complete-is c k) code in
     let z = g .going (complete-is c k) in (
       [],
       [],
-      nothing-left,
+      only none,
       record {
-        points-number = sym (k .no-points);
-        rings-number = sym (k .no-rings);
-        points-fit = tt;
-        closes = tt;
-        rings-fit = tt;
-        bytes = drop-of-length-le s {i = c .at} (omega arith);
+        polygon = no-polygon (k .no-points) (k .no-rings) (drop-of-length-le s {i = c .at} (omega arith));
         polygons-fit = let m = g .raw .many in omega arith;
         total-fits = let m = g .raw .total in omega arith;
-        below = record {
-          parts-number = sym (k .no-parts);
-          fourth-number = sym (k .no-fourth);
-          third-number = sym (k .no-third);
-          second-number = sym (k .no-second);
-          members-number = rw (k .no-header) (omega arith);
-          parts-fit = tt;
-          fourth-fit = tt;
-          third-fit = tt;
-          second-fit = tt;
-          members-fit = tt;
-        };
+        below = below-only c none k (rw (k .no-header) (omega arith), tt);
       },
     )
 

@@ -2,7 +2,7 @@
 -- rings, parts and members of each open collection are still to come, one list for each, and their bytes stand in this order; so a step
 -- takes the first thing off these lists. Assumes nothing.
 use mathlib.Core.Path.{_≡_, refl, sym, _∙_, ap}
-use mathlib.Core.Bool.{true, false, cond}
+use mathlib.Core.Bool.{Bool, true, false, cond}
 use mathlib.Core.List.{List, [], _∷_, _++_, map, flatMap, append-assoc, map-append}
 use Prim.Native.Nat.{ℕ, _+_, _≤_, _<_}
 use native.Mathlib.Omega.{arith}
@@ -31,6 +31,10 @@ pub record Left : Type 0 where
   pub second : Geometries
   pub members : Geometries
 
+-- The members of the sheet and no more.
+abbrev pub only : Geometries → Left
+only ms = record { parts = none; fourth = none; third = none; second = none; members = ms }
+
 unfoldable pub leftBytes : Left → List ℕ
 leftBytes w = encodeAll (w .parts) ++ (encodeAll (w .fourth) ++ (encodeAll (w .third) ++ (encodeAll (w .second) ++ encodeAll (w .members))))
 
@@ -42,17 +46,16 @@ leftOpen w = membersOf (w .parts) ++ (membersOf (w .fourth) ++ (membersOf (w .th
 abbrev pub Top : Geometry → Type 0
 Top g = MemberFits g 3 × (length (memberOf g) ≤ 64)
 
+-- So many geometries, all of them such.
+abbrev pub Group : (Geometries → Type 0) → ℕ → Geometries → Type 0
+Group P n gs = (count gs ≡ n) × P gs
+
 pub record Below (parts fourth third second members : ℕ) (w : Left) : Type 0 where
-  pub parts-number : count (w .parts) ≡ parts
-  pub fourth-number : count (w .fourth) ≡ fourth
-  pub third-number : count (w .third) ≡ third
-  pub second-number : count (w .second) ≡ second
-  pub members-number : count (w .members) ≡ members
-  pub parts-fit : Each PartFits (w .parts)
-  pub fourth-fit : MembersFit (w .fourth) 1
-  pub third-fit : MembersFit (w .third) 2
-  pub second-fit : MembersFit (w .second) 3
-  pub members-fit : Each Top (w .members)
+  pub parts-are : Group (Each PartFits) parts (w .parts)
+  pub fourth-are : Group (λ gs. MembersFit gs 1) fourth (w .fourth)
+  pub third-are : Group (λ gs. MembersFit gs 2) third (w .third)
+  pub second-are : Group (λ gs. MembersFit gs 3) second (w .second)
+  pub members-are : Group (Each Top) members (w .members)
 
 abbrev pub BelowAt : Cursor → Left → Type 0
 BelowAt c w = Below (c .parts) (c .fourth) (c .third) (c .second) (c .members + bit (c .header)) w
@@ -70,15 +73,23 @@ Closes b (p ∷ l) = pointOf (lastOf p l) ≡ cond (b .first) (pointOf p) (recor
 abbrev pub PointFits : Pair → Type 0
 PointFits p = IsCoordinate (p .x) × IsCoordinate (p .y)
 
--- The lists stand at the place: with its counts, their bytes from there on, and within the limits.
-pub record Stands (s : List ℕ) (c : Cursor) (b : Taken) (ps : List Pair) (rs : List (List Pair)) (w : Left) : Type 0 where
-  pub points-number : length ps ≡ c .points
-  pub rings-number : length rs ≡ c .rings
-  pub below : BelowAt c w
-  pub bytes : drop (c .at) s ≡ flatMap (encodePoint (c .little)) ps ++ (flatMap (encodeRing (c .little)) rs ++ leftBytes w)
+-- The open polygon: the points left of its open ring and its rings left stand at the place, and the bytes `rest` behind them; with the place's counts, and
+-- within the limits, where a ring has at most `high` points.
+pub record Open (high : ℕ) (s : List ℕ) (at : ℕ) (little : Bool) (points rings : ℕ) (b : Taken) (ps : List Pair) (rs : List (List Pair)) (rest : List ℕ) : Type 0 where
+  pub points-number : length ps ≡ points
+  pub rings-number : length rs ≡ rings
+  pub bytes : drop at s ≡ flatMap (encodePoint little) ps ++ (flatMap (encodeRing little) rs ++ rest)
   pub points-fit : All PointFits ps
   pub closes : Closes b ps
-  pub rings-fit : All (RingFits 4 4096) rs
+  pub rings-fit : All (RingFits 4 high) rs
+
+abbrev pub OpenPolygon : ℕ → List ℕ → Cursor → Taken → List Pair → List (List Pair) → List ℕ → Type 0
+OpenPolygon high s c b ps rs rest = Open high s (c .at) (c .little) (c .points) (c .rings) b ps rs rest
+
+-- The lists stand at the place: with its counts, their bytes from there on, and within the limits.
+pub record Stands (s : List ℕ) (c : Cursor) (b : Taken) (ps : List Pair) (rs : List (List Pair)) (w : Left) : Type 0 where
+  pub polygon : OpenPolygon 4096 s c b ps rs (leftBytes w)
+  pub below : BelowAt c w
   pub polygons-fit : c .polygons + length (leftOpen w) ≤ 64
   pub total-fits : c .total + (ringLengths (map ringOf rs) + (lengths (leftOpen w) + allLengths (each memberOf (w .members)))) ≤ 4096
 
@@ -138,6 +149,16 @@ none-left (g then gs) e = absurd (omega arith)
 pub no-list : {A : Type 0} (l : List A) → length l ≡ 0 → l ≡ []
 no-list [] e = refl
 no-list (a ∷ l) e = absurd (omega arith)
+
+-- Where no ring is open yet, and where no polygon is.
+module _ {high : ℕ} {s : List ℕ} {at : ℕ} {little : Bool} {points rings : ℕ} {b : Taken} {rest : List ℕ} (no-points : points ≡ 0) where
+  pub no-ring : {rs : List (List Pair)} → length rs ≡ rings → drop at s ≡ flatMap (encodeRing little) rs ++ rest → All (RingFits 4 high) rs → Open high s at little points rings b [] rs rest
+  unfolding flatMap
+  no-ring n e f = record { points-number = sym no-points; rings-number = n; bytes = e; points-fit = tt; closes = tt; rings-fit = f }
+
+  pub no-polygon : rings ≡ 0 → drop at s ≡ rest → Open high s at little points rings b [] [] rest
+  unfolding flatMap
+  no-polygon n e = no-ring (sym n) e tt
 
 -- ---- what the two inductions have from later places
 -- Reading later places where lists stand ends with their numbers; where reading a later place ends with code 0, lists stand there.

@@ -3,11 +3,11 @@
 -- come first, and what it unfolds to comes before the other polygons of the member. Assumes nothing.
 use mathlib.Core.Path.{_≡_, refl, _∙_}
 use mathlib.Core.Bool.{Bool, true, false}
-use mathlib.Core.List.{List, _++_, append-assoc}
+use mathlib.Core.List.{List, [], _++_, append-assoc}
 use Prim.Native.Nat.{ℕ, _-_, _<_}
 use Rattle.wkb.specs.declared.Cursor.{Cursor}
 use Rattle.wkb.specs.Places.{geometriesToCome}
-use Rattle.wkb.specs.Standard.{Geometry, none, _then_, encode, encodeAll}
+use Rattle.wkb.specs.Standard.{Geometry, Geometries, none, _then_, encode, encodeAll}
 use Rattle.wkb.specs.Steps.{popped}
 use Rattle.wkb.proofs.Steps.{popped-own, popped-fourth, popped-third, popped-second}
 use Rattle.sheet.specs.Reading.{Taken, begin}
@@ -33,36 +33,37 @@ headerWithout fourth h = h
 headerWithout third h = h
 headerWithout second h = h
 
-abbrev partsWithout : Level → ℕ → ℕ
-partsWithout part n = n - 1
-partsWithout own n = n
-partsWithout fourth n = n
-partsWithout third n = n
-partsWithout second n = n
+-- A count with f done at the level.
+abbrev pub partsAt : Level → (ℕ → ℕ) → ℕ → ℕ
+partsAt part f n = f n
+partsAt own f n = n
+partsAt fourth f n = n
+partsAt third f n = n
+partsAt second f n = n
 
-abbrev fourthWithout : Level → ℕ → ℕ
-fourthWithout part n = n
-fourthWithout own n = n
-fourthWithout fourth n = n - 1
-fourthWithout third n = n
-fourthWithout second n = n
+abbrev pub fourthAt : Level → (ℕ → ℕ) → ℕ → ℕ
+fourthAt part f n = n
+fourthAt own f n = n
+fourthAt fourth f n = f n
+fourthAt third f n = n
+fourthAt second f n = n
 
-abbrev thirdWithout : Level → ℕ → ℕ
-thirdWithout part n = n
-thirdWithout own n = n
-thirdWithout fourth n = n
-thirdWithout third n = n - 1
-thirdWithout second n = n
+abbrev pub thirdAt : Level → (ℕ → ℕ) → ℕ → ℕ
+thirdAt part f n = n
+thirdAt own f n = n
+thirdAt fourth f n = n
+thirdAt third f n = f n
+thirdAt second f n = n
 
-abbrev secondWithout : Level → ℕ → ℕ
-secondWithout part n = n
-secondWithout own n = n
-secondWithout fourth n = n
-secondWithout third n = n
-secondWithout second n = n - 1
+abbrev pub secondAt : Level → (ℕ → ℕ) → ℕ → ℕ
+secondAt part f n = n
+secondAt own f n = n
+secondAt fourth f n = n
+secondAt third f n = n
+secondAt second f n = f n
 
 abbrev pub taking : Level → Cursor → Cursor
-taking l c = geometriesToCome (headerWithout l (c .header)) (secondWithout l (c .second)) (thirdWithout l (c .third)) (fourthWithout l (c .fourth)) (partsWithout l (c .parts)) c
+taking l c = geometriesToCome (headerWithout l (c .header)) (secondAt l (λ n. n - 1) (c .second)) (thirdAt l (λ n. n - 1) (c .third)) (fourthAt l (λ n. n - 1) (c .fourth)) (partsAt l (λ n. n - 1) (c .parts)) c
 
 -- What was taken, then: the member's own geometry begins the member.
 abbrev pub begun : Level → Taken → Taken
@@ -72,13 +73,16 @@ begun fourth b = b
 begun third b = b
 begun second b = b
 
--- The lists with it.
+-- The lists with f done at the level, and with the geometry.
+abbrev pub onLevel : Level → (Geometries → Geometries) → Left → Left
+onLevel part f w = record { parts = f (w .parts); fourth = w .fourth; third = w .third; second = w .second; members = w .members }
+onLevel own f w = record { parts = w .parts; fourth = w .fourth; third = w .third; second = w .second; members = f (w .members) }
+onLevel fourth f w = record { parts = w .parts; fourth = f (w .fourth); third = w .third; second = w .second; members = w .members }
+onLevel third f w = record { parts = w .parts; fourth = w .fourth; third = f (w .third); second = w .second; members = w .members }
+onLevel second f w = record { parts = w .parts; fourth = w .fourth; third = w .third; second = f (w .second); members = w .members }
+
 abbrev pub with-it : Level → Geometry → Left → Left
-with-it part g w = record { parts = g then w .parts; fourth = w .fourth; third = w .third; second = w .second; members = w .members }
-with-it own g w = record { parts = w .parts; fourth = w .fourth; third = w .third; second = w .second; members = g then w .members }
-with-it fourth g w = record { parts = w .parts; fourth = g then w .fourth; third = w .third; second = w .second; members = w .members }
-with-it third g w = record { parts = w .parts; fourth = w .fourth; third = g then w .third; second = w .second; members = w .members }
-with-it second g w = record { parts = w .parts; fourth = w .fourth; third = w .third; second = g then w .second; members = w .members }
+with-it l g w = onLevel l (λ gs. g then gs) w
 
 -- What it may be.
 abbrev pub Fits : Level → Geometry → Type 0
@@ -104,14 +108,21 @@ Inside fourth = Unit {0}
 Inside third = Unit {0}
 Inside second = Unit {0}
 
+pub inside-members : (l : Level) (f : Geometries → Geometries) (w : Left) → Inside l → onLevel l f w .members ≡ w .members
+inside-members part f w i = refl
+inside-members own f w i = absurd i
+inside-members fourth f w i = refl
+inside-members third f w i = refl
+inside-members second f w i = refl
+
 pub inner : (l : Level) (s : List ℕ) (c : Cursor) (b : Taken) (w : Left) → Raw s c b → At l c → BelowAt (taking l c) w → Inner l w
 inner part s c b w r a h = tt
 inner own s c b w r a h =
     let z = r .own (a .0) in
-    (none-left (w .parts) (h .parts-number ∙ a .1), none-left (w .fourth) (h .fourth-number ∙ z .3), none-left (w .third) (h .third-number ∙ z .4), none-left (w .second) (h .second-number ∙ z .5))
-inner fourth s c b w r a h = none-left (w .parts) (h .parts-number ∙ a .1)
-inner third s c b w r a h = (none-left (w .parts) (h .parts-number ∙ a .1), none-left (w .fourth) (h .fourth-number ∙ a .2))
-inner second s c b w r a h = (none-left (w .parts) (h .parts-number ∙ a .1), none-left (w .fourth) (h .fourth-number ∙ a .2), none-left (w .third) (h .third-number ∙ a .3))
+    (none-left (w .parts) (h .parts-are .0 ∙ a .1), none-left (w .fourth) (h .fourth-are .0 ∙ z .3), none-left (w .third) (h .third-are .0 ∙ z .4), none-left (w .second) (h .second-are .0 ∙ z .5))
+inner fourth s c b w r a h = none-left (w .parts) (h .parts-are .0 ∙ a .1)
+inner third s c b w r a h = (none-left (w .parts) (h .parts-are .0 ∙ a .1), none-left (w .fourth) (h .fourth-are .0 ∙ a .2))
+inner second s c b w r a h = (none-left (w .parts) (h .parts-are .0 ∙ a .1), none-left (w .fourth) (h .fourth-are .0 ∙ a .2), none-left (w .third) (h .third-are .0 ∙ a .3))
 
 pub with-bytes : (l : Level) (g : Geometry) (w : Left) → Inner l w → leftBytes (with-it l g w) ≡ encode g ++ leftBytes w
 unfolding leftBytes encodeAll
@@ -129,6 +140,11 @@ with-open own g w n f = absurd f
 with-open fourth g w n f = rw n (append-assoc (memberOf g) (membersOf (w .fourth)) (membersOf (w .third) ++ membersOf (w .second)))
 with-open third g w n f = rw (n .0, n .1) (append-assoc (memberOf g) (membersOf (w .third)) (membersOf (w .second)))
 with-open second g w n f = rw (n .0, n .1, n .2) refl
+
+-- Where nothing of the member is left, none of its polygons are.
+pub own-open : (w : Left) → Inner own w → leftOpen w ≡ []
+unfolding leftOpen membersOf
+own-open w n = rw (n .0, n .1, n .2, n .3) refl
 
 pub popped-is : (l : Level) (c : Cursor) → At l c → (l ≡ part → ⊥) → popped c ≡ taking l c
 popped-is part c a f = absurd (f refl)

@@ -22,11 +22,10 @@ use Rattle.sheet_standard.specs.Limits.{memberOf, PolygonFits, FromTo, M
 use Rattle.sheet_standard.proofs.Standard.Fields.{Bytes, heading, heading-is, heads}
 use Rattle.sheet_standard.proofs.Standard.Steps.{geometry-goes, GeometryRead, geometry-back}
 use Rattle.sheet_standard.proofs.Standard.Left.{Left, leftBytes, Stands, Raw, outcome, Ends, no-list, Found, Through, Back}
-use Rattle.sheet_standard.proofs.Standard.Below.{below-without}
 use Rattle.sheet_standard.proofs.Standard.Levels.{Level, At, taking, begun, with-it, Fits, Inside, inner, part, own, second, third, fourth}
 use Rattle.sheet_standard.proofs.Standard.Pending.{Pending, pendingOutcome, taking-raw, pend, stood, pending-outcome}
 use Rattle.sheet_standard.proofs.Standard.Polygon.{ringsAt, withPolygon, polygon-good, polygon-outcome, polygon-stands, polygon-pends}
-use Rattle.sheet_standard.proofs.Standard.Entered.{put, entered, Children, Zero, got}
+use Rattle.sheet_standard.proofs.Standard.Entered.{put, entered, Children, below-without, Zero, got}
 use Rattle.sheet_standard.proofs.Standard.Holding.{holding-good, holding-outcome, holding-stands, holding-pends}
 use Rattle.sheet_standard.proofs.Standard.Opened.{slotAt, Whole, slot-at, at-level, count-allowed, allowed-count, polygon-allowed, polygon-opened, polygon-taken, parts-opened, deeper, members-opened, inside-deeper, zero-deeper, zero-parts, taking-closed, other-taken, slot-whole, parts-allowed, members-allowed}
 
@@ -167,10 +166,10 @@ module _ (s : List ℕ) (c : Cursor) (b : Taken) (l : Level) (x : Next s c b l) 
       let v = later (ringsAt n little (taking l c)) (withPolygon n (taking l c) (begun l b)) (omega arith) (polygon-good s (taking l c) (begun l b) r z few n (f .0) little nine) code in
       let rs = v .1 in
       let w = v .2 in
-      let number : length rs ≡ n = v .3 .rings-number in
-      let st : Stands s (ringsAt n little (taking l c)) (withPolygon n (taking l c) (begun l b)) [] rs w = rw (no-list (v .0) (v .3 .points-number ∙ x .no-points)) at (v .3) in
+      let number : length rs ≡ n = v .3 .polygon .rings-number in
+      let st : Stands s (ringsAt n little (taking l c)) (withPolygon n (taking l c) (begun l b)) [] rs w = rw (no-list (v .0) (v .3 .polygon .points-number ∙ x .no-points)) at (v .3) in
       let h = polygon-pends s (taking l c) (begun l b) r z few n (f .0) little nine rs w number e st in
-      let fits : PolygonFits rs = ((omega (arith, f .0), omega (arith, f .1)), st .rings-fit) in
+      let fits : PolygonFits rs = ((omega (arith, f .0), omega (arith, f .1)), st .polygon .rings-fit) in
       ([], [], with-it l (ringed little Polygon rs) w, stood s c b (ringed little Polygon rs) w (x .raw) l (x .at-it) (x .no-points) (x .no-rings) (fits-ringed l little rs fits) h)
 
   holding-return : (t : Level) → Inside t → Zero t (taking l c) → (little : Bool) (kind : Kind) (n : ℕ) → FromTo 1 64 n → c .at + 9 ≤ length s
@@ -182,11 +181,11 @@ module _ (s : List ℕ) (c : Cursor) (b : Taken) (l : Level) (x : Next s c b l) 
       let v = later (entered t n (taking l c)) (begun l b) (omega arith) (holding-good s (taking l c) (begun l b) r y t i z n (f .0) little kind nine) code in
       let k = got t n (taking l c) (v .2) i z (v .3 .below) in
       let st : Stands s (entered t n (taking l c)) (begun l b) [] [] (put t (k .gs) (k .w)) =
-      rw (k .is) (rw (no-list (v .0) (v .3 .points-number ∙ x .no-points), no-list (v .1) (v .3 .rings-number ∙ x .no-rings)) at (v .3)) in
-      let h = holding-pends s (taking l c) (begun l b) r y t i z n (f .0) little kind nine (k .gs) (k .w) (k .number) (k .fit) (k .below) e st in
-      let m = k .number in
+      rw (k .is) (rw (no-list (v .0) (v .3 .polygon .points-number ∙ x .no-points), no-list (v .1) (v .3 .polygon .rings-number ∙ x .no-rings)) at (v .3)) in
+      let h = holding-pends s (taking l c) (begun l b) r y t i z n (f .0) little kind nine (k .gs) (k .w) (k .are .0) (k .are .1) (k .below) e st in
+      let m = k .are .0 in
       let fit : FromTo 1 64 (count (k .gs)) = (omega (arith, f .0), omega (arith, f .1)) in
-      ([], [], with-it l (holding little kind (k .gs)) (k .w), stood s c b (holding little kind (k .gs)) (k .w) (x .raw) l (x .at-it) (x .no-points) (x .no-rings) (fits (k .gs) (k .fit) fit) h)
+      ([], [], with-it l (holding little kind (k .gs)) (k .w), stood s c b (holding little kind (k .gs)) (k .w) (x .raw) l (x .at-it) (x .no-points) (x .no-rings) (fits (k .gs) (k .are .1) fit) h)
 
   -- The type let through is a Polygon's: the same for parts and members.
   polygon-then : (k : GeometryRead s c b) → k .kind ≡ 3 → c .polygons < 64 → Back s c → Found s c b

@@ -10,12 +10,12 @@ use lib.ListN.{length, drop, set, length-append}
 use lib.Seq.{getD-append-seam, set-append-seam}
 use Rattle.plane.specs.Corners.{millimetres}
 use Rattle.wkb.specs.declared.Cursor.{Cursor}
-use Rattle.wkb.specs.Standard.{Geometry, encode}
+use Rattle.wkb.specs.Standard.{Geometry, _then_, encode}
 use Rattle.sheet.specs.Reading.{Taken, held}
-use Rattle.sheet_standard.specs.Limits.{memberOf, membersOf, each, lengths, allLengths}
-use Rattle.sheet_standard.proofs.Standard.Left.{Left, leftBytes, leftOpen, BelowAt, Stands, Raw, front, leftNumbers, outcome, millimetres-count}
-use Rattle.sheet_standard.proofs.Standard.Below.{below-without, below-with}
-use Rattle.sheet_standard.proofs.Standard.Levels.{Level, At, taking, begun, with-it, Fits, Inner, Inside, inner, with-bytes, with-open, part, own, second, third, fourth}
+use Rattle.sheet_standard.specs.Limits.{memberOf, each, lengths, allLengths}
+use Rattle.sheet_standard.proofs.Standard.Left.{Left, leftBytes, leftOpen, BelowAt, Stands, Raw, front, leftNumbers, outcome, millimetres-count, no-polygon}
+use Rattle.sheet_standard.proofs.Standard.Levels.{Level, At, taking, begun, with-it, Fits, Inner, Inside, inside-members, inner, with-bytes, with-open, own-open, part, own, second, third, fourth}
+use Rattle.sheet_standard.proofs.Standard.Entered.{below-without, below-with}
 
 -- The geometry g is pending at the place d, with the lists w behind it.
 pub record Pending (s : List ℕ) (d : Cursor) (g : Geometry) (w : Left) : Type 0 where
@@ -42,18 +42,6 @@ taking-raw fourth s c b a r = record { within = r .within; member = r .member; o
 taking-raw third s c b a r = record { within = r .within; member = r .member; own = λ e. absurd (true≢false (sym e ∙ a .0)); many = r .many; total = r .total; marked = r .marked }
 taking-raw second s c b a r = record { within = r .within; member = r .member; own = λ e. absurd (true≢false (sym e ∙ a .0)); many = r .many; total = r .total; marked = r .marked }
 
--- With the member's own geometry in, none of its polygons are counted yet.
-own-open : (w : Left) → Inner own w → leftOpen w ≡ []
-unfolding leftOpen membersOf
-own-open w n = rw (n .0, n .1, n .2, n .3) refl
-
-inside-members : (l : Level) (g : Geometry) (w : Left) → Inside l → with-it l g w .members ≡ w .members
-inside-members part g w i = refl
-inside-members own g w i = absurd i
-inside-members fourth g w i = refl
-inside-members third g w i = refl
-inside-members second g w i = refl
-
 inside-begun : (l : Level) (b : Taken) → Inside l → begun l b ≡ b
 inside-begun part b i = refl
 inside-begun own b i = absurd i
@@ -76,9 +64,9 @@ module _ (s : List ℕ) (c : Cursor) (b : Taken) (g : Geometry) (w : Left) (r : 
       let n = inner l s c b w r a k in
       record {
         below = k;
-        bytes = h .bytes ∙ with-bytes l g w n;
+        bytes = h .polygon .bytes ∙ with-bytes l g w n;
         polygons-fit = rw (with-open l g w n i) at (h .polygons-fit);
-        total-fits = let t = rw (with-open l g w n i, inside-members l g w i) at (h .total-fits) in omega arith;
+        total-fits = let t = rw (with-open l g w n i, inside-members l (λ gs. g then gs) w i) at (h .total-fits) in omega arith;
       }
 
   pub pend : (l : Level) → At l c → Stands s c b [] [] (with-it l g w) → Pending s (taking l c) g w
@@ -93,8 +81,8 @@ module _ (s : List ℕ) (c : Cursor) (b : Taken) (g : Geometry) (w : Left) (r : 
       let o : leftOpen w ≡ [] = own-open w n in
       record {
         below = k;
-        bytes = h .bytes ∙ with-bytes own g w n;
-        polygons-fit = rw (o, append-nil (memberOf g), r .own (a .0) .6) (let m = h .below .members-fit .0 .1 in omega arith);
+        bytes = h .polygon .bytes ∙ with-bytes own g w n;
+        polygons-fit = rw (o, append-nil (memberOf g), r .own (a .0) .6) (let m = h .below .members-are .1 .0 .1 in omega arith);
         total-fits = rw (o, append-nil (memberOf g)) (let t = h .total-fits in omega arith);
       }
 
@@ -103,15 +91,10 @@ module _ (s : List ℕ) (c : Cursor) (b : Taken) (g : Geometry) (w : Left) (r : 
   stood-inside l i a z z′ f h =
       let n = inner l s c b w r a (h .below) in
       record {
-        points-number = sym z;
-        rings-number = sym z′;
-        bytes = h .bytes ∙ sym (with-bytes l g w n);
-        points-fit = tt;
-        closes = tt;
-        rings-fit = tt;
+        polygon = no-polygon z z′ (h .bytes ∙ sym (with-bytes l g w n));
         below = below-with l c g w a f (let m = h .polygons-fit in let q = length-append (memberOf g) (leftOpen w) in omega arith) (h .below);
         polygons-fit = rw (with-open l g w n i) (h .polygons-fit);
-        total-fits = rw (with-open l g w n i, inside-members l g w i) (let t = h .total-fits in omega arith);
+        total-fits = rw (with-open l g w n i, inside-members l (λ gs. g then gs) w i) (let t = h .total-fits in omega arith);
       }
 
   pub stood : (l : Level) → At l c → c .points ≡ 0 → c .rings ≡ 0 → Fits l g → Pending s (taking l c) g w → Stands s c b [] [] (with-it l g w)
@@ -124,12 +107,7 @@ module _ (s : List ℕ) (c : Cursor) (b : Taken) (g : Geometry) (w : Left) (r : 
       let n = inner own s c b w r a (h .below) in
       let o : leftOpen w ≡ [] = own-open w n in
       record {
-        points-number = sym z;
-        rings-number = sym z′;
-        bytes = h .bytes ∙ sym (with-bytes own g w n);
-        points-fit = tt;
-        closes = tt;
-        rings-fit = tt;
+        polygon = no-polygon z z′ (h .bytes ∙ sym (with-bytes own g w n));
         below = below-with own c g w a f (let m = h .polygons-fit in let q = length-append (memberOf g) (leftOpen w) in omega arith) (h .below);
         polygons-fit = rw o (let m = r .many in omega arith);
         total-fits = let t = rw (o, append-nil (memberOf g)) at (h .total-fits) in rw o (omega arith);
@@ -137,7 +115,7 @@ module _ (s : List ℕ) (c : Cursor) (b : Taken) (g : Geometry) (w : Left) (r : 
 
   outcome-inside : (l : Level) → Inside l → At l c → Inner l w → pendingOutcome (taking l c) (begun l b) g w ≡ outcome c b [] [] (with-it l g w)
   unfolding flatMap outcome pendingOutcome front
-  outcome-inside l i a n = rw (with-open l g w n i, inside-members l g w i, inside-begun l b i, inside-header l c i a) refl
+  outcome-inside l i a n = rw (with-open l g w n i, inside-members l (λ gs. g then gs) w i, inside-begun l b i, inside-header l c i a) refl
 
   pub pending-outcome : (l : Level) → At l c → Inner l w → pendingOutcome (taking l c) (begun l b) g w ≡ outcome c b [] [] (with-it l g w)
   unfolding flatMap outcome pendingOutcome front leftNumbers leftOpen

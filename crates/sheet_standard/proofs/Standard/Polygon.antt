@@ -18,7 +18,7 @@ use Rattle.sheet_form.specs.Numbers.{ringNumbers, partNumbers, memberNumbers}
 use Rattle.sheet.specs.Reading.{Taken, held, push, tally}
 use Rattle.sheet_standard.specs.Limits.{ringOf, memberOf, each, PolygonFits}
 use Rattle.sheet_standard.proofs.Standard.Fields.{heading, heading-is}
-use Rattle.sheet_standard.proofs.Standard.Left.{Left, leftBytes, leftOpen, Stands, Raw, Good, front, leftNumbers, outcome, millimetres-count, pushed, still-marked}
+use Rattle.sheet_standard.proofs.Standard.Left.{Left, leftBytes, leftOpen, Stands, Raw, Good, front, leftNumbers, outcome, millimetres-count, pushed, still-marked, no-ring}
 use Rattle.sheet_standard.proofs.Standard.Pending.{Pending, pendingOutcome}
 
 -- The place after a polygon's header, and what was taken then.
@@ -65,13 +65,8 @@ module _ (s : List ℕ) (d : Cursor) (b : Taken) (r : Raw s d b) (closed : d .he
         → Pending s d (ringed little Polygon rs) w → Stands s (ringsAt n little d) (withPolygon n d b) [] rs w
     unfolding flatMap memberOf
     polygon-stands z f e h = record {
-      points-number = sym z;
-      rings-number = number;
+      polygon = no-ring z number e (f .1);
       below = h .below;
-      bytes = e;
-      points-fit = tt;
-      closes = tt;
-      rings-fit = f .1;
       polygons-fit = let m = h .polygons-fit in omega arith;
       total-fits = let t = h .total-fits in omega arith;
     }
@@ -80,7 +75,7 @@ module _ (s : List ℕ) (d : Cursor) (b : Taken) (r : Raw s d b) (closed : d .he
     unfolding flatMap memberOf encode
     polygon-pends e h = record {
       below = h .below;
-      bytes = e ∙ ap (λ l. heading little 3 n ++ l) (h .bytes) ∙ rw (heading-is little Polygon (length rs), number) (sym (append-assoc (heading little 3 n) (flatMap (encodeRing little) rs) (leftBytes w)));
+      bytes = e ∙ ap (λ l. heading little 3 n ++ l) (h .polygon .bytes) ∙ rw (heading-is little Polygon (length rs), number) (sym (append-assoc (heading little 3 n) (flatMap (encodeRing little) rs) (leftBytes w)));
       polygons-fit = let m = h .polygons-fit in omega arith;
       total-fits = let t = h .total-fits in omega arith;
     }

@@ -26,10 +26,9 @@ use Rattle.sheet.specs.Going.{reading}
 use Rattle.sheet_standard.specs.Limits.{triangleOf, each, RingFits}
 use Rattle.sheet_standard.proofs.Standard.Fields.{Bytes, heading, heading-is, heads}
 use Rattle.sheet_standard.proofs.Standard.Steps.{AtGeometry, geometry-goes, geometry-back}
-use Rattle.sheet_standard.proofs.Standard.Left.{Ends, no-list}
+use Rattle.sheet_standard.proofs.Standard.Left.{Ends, no-list, no-ring, no-polygon}
 use Rattle.sheet_standard.proofs.Standard.Rings.{regroup}
-use Rattle.sheet_standard.proofs.Standard.Table.{cornersOf, InTable, TableStands, membersOutcome, tableOutcome}
-use Rattle.sheet_standard.proofs.Standard.TablePoints.{TableFound, TableThrough, TableBack}
+use Rattle.sheet_standard.proofs.Standard.Table.{cornersOf, InTable, TableStands, still-in, membersOutcome, tableOutcome, TableFound, TableThrough, TableBack}
 
 -- ---- a piece's header
 -- The place after it.
@@ -50,9 +49,6 @@ piece-slot c m h = rw (m, lt-ltb 0 (c .parts) h) refl
 
 piece-next : (c : Cursor) → c .member ≡ 1 → c .points ≡ 0 → c .rings ≡ 0 → 0 < c .parts → AtGeometry c
 piece-next c m p q h = record { no-points = p; no-rings = q; more = rw (ne-eqb (c .member) 0 (λ e. absurd (omega arith)), not-complete c (λ k. let z = k .no-parts in omega arith)) refl }
-
-piece-in : (s : List ℕ) (c : Cursor) (n : ℕ) (little : Bool) → InTable s c → c .at + 9 ≤ length s → InTable s (pieceAt n little c)
-piece-in s c n little t h = record { within = h; member = t .member; no-header = t .no-header; no-second = t .no-second; no-third = t .no-third; no-fourth = t .no-fourth; total = t .total; members = t .members }
 
 type-fits : (k : Kind) → typeOf k < 256 ^ 4
 type-fits Polygon = omega arith
@@ -110,33 +106,28 @@ piece-outcome b little kind rs gs ms one f =
 pub table-piece-through : (s : List ℕ) (c : Cursor) (b : Taken) (g : Geometry) (gs ms : Geometries) → InTable s c → TableStands s c b [] [] (g then gs) ms → TableThrough s c
     → Ends (reading s c b) (tableOutcome b [] [] (g then gs) ms)
 unfolding flatMap encodeAll encode
-table-piece-through s c b (holding little kind xs) gs ms t h later = absurd (h .pieces-fit .0)
+table-piece-through s c b (holding little kind xs) gs ms t h later = absurd (h .below .pieces-are .1 .0)
 table-piece-through s c b (ringed little kind rs) gs ms t h later =
     let n = length rs in
-    let f = h .pieces-fit .0 in
+    let f = h .below .pieces-are .1 .0 in
     let one : n ≡ 1 = f .1 in
-    let some : 0 < c .parts = let m = h .pieces-number in omega arith in
+    let some : 0 < c .parts = let m = h .below .pieces-are .0 in omega arith in
     let word : n < 256 ^ 4 = omega arith in
     let q = heads s (c .at) little (typeOf kind) n _ (t .within) (type-fits kind) word
-    (rw (heading-is little kind n) at (h .bytes) ∙ regroup (heading little (typeOf kind) n) (flatMap (encodeRing little) rs) (encodeAll gs) (encodeAll ms)) in
+    (rw (heading-is little kind n) at (h .polygon .bytes) ∙ regroup (heading little (typeOf kind) n) (flatMap (encodeRing little) rs) (encodeAll gs) (encodeAll ms)) in
     rw (
-      geometry-goes s c b Piece little (typeOf kind) n _ (piece-next c (t .member) (sym (h .points-number)) (sym (h .rings-number)) some) (piece-slot c (t .member) some) q (piece-allowed c kind (f .0)) (one-count (c .limit) n one),
+      geometry-goes s c b Piece little (typeOf kind) n _ (piece-next c (t .member) (sym (h .polygon .points-number)) (sym (h .polygon .rings-number)) some) (piece-slot c (t .member) some) q (piece-allowed c kind (f .0)) (one-count (c .limit) n one),
       piece-opened c little (typeOf kind) n,
       piece-taken c (pieceAt n little c) (typeOf kind) n b,
       ← piece-outcome b little kind rs gs ms one (f .2),
     )
-    (later (pieceAt n little c) b [] rs gs ms (omega arith) (piece-in s c n little t (q .nine)) (omega arith) (record {
-      points-number = h .points-number;
-      rings-number = refl;
-      pieces-number = let m = h .pieces-number in omega arith;
-      members-number = h .members-number;
-      bytes = q .next;
-      points-fit = tt;
-      closes = tt;
-      rings-fit = f .2;
-      pieces-fit = h .pieces-fit .1;
-      members-fit = h .members-fit;
-      total-fits = h .total-fits;
+    (later (pieceAt n little c) b [] rs gs ms (omega arith) (still-in 9 (c .points) n (c .parts - 1) little t (q .nine)) (omega arith) (record {
+      polygon = no-ring (sym (h .polygon .points-number)) refl (q .next) (f .2);
+      below = record {
+        pieces-are = (let m = h .below .pieces-are .0 in omega arith, h .below .pieces-are .1 .1);
+        members-are = h .below .members-are;
+        total-fits = h .below .total-fits;
+      };
     }))
 
 piece-stood : (s : List ℕ) (c : Cursor) (b : Taken) (little : Bool) (kind : Kind) (n : ℕ) (rs : List (List Pair)) (gs ms : Geometries) → c .points ≡ 0 → c .rings ≡ 0 → 0 < c .parts → n ≡ 1
@@ -144,20 +135,17 @@ piece-stood : (s : List ℕ) (c : Cursor) (b : Taken) (little : Bool) (kind : Ki
     → TableStands s c b [] [] (ringed little kind rs then gs) ms
 unfolding flatMap encodeAll encode
 piece-stood s c b little kind n rs gs ms p q some one k e h =
-    let m = h .rings-number in
+    let m = h .polygon .rings-number in
+    let l = h .below in
     record {
-      points-number = sym p;
-      rings-number = sym q;
-      pieces-number = let l = h .pieces-number in omega arith;
-      members-number = h .members-number;
-      bytes = e ∙ ap (λ l. heading little (typeOf kind) n ++ l) (h .bytes)
-          ∙ rw (heading-is little kind (length rs), m) (sym (regroup (heading little (typeOf kind) n) (flatMap (encodeRing little) rs) (encodeAll gs) (encodeAll ms)));
-      points-fit = tt;
-      closes = tt;
-      rings-fit = tt;
-      pieces-fit = ((k, m ∙ one, h .rings-fit), h .pieces-fit);
-      members-fit = h .members-fit;
-      total-fits = h .total-fits;
+      polygon = no-polygon p q
+          (e ∙ ap (λ l. heading little (typeOf kind) n ++ l) (h .polygon .bytes)
+          ∙ rw (heading-is little kind (length rs), m) (sym (regroup (heading little (typeOf kind) n) (flatMap (encodeRing little) rs) (encodeAll gs) (encodeAll ms))));
+      below = record {
+        pieces-are = (let z = l .pieces-are .0 in omega arith, ((k, m ∙ one, h .polygon .rings-fit), l .pieces-are .1));
+        members-are = l .members-are;
+        total-fits = l .total-fits;
+      };
     }
 
 pub table-piece-return : (s : List ℕ) (c : Cursor) (b : Taken) → Bytes s → InTable s c → c .points ≡ 0 → c .rings ≡ 0 → 0 < c .parts → reading s c b .code ≡ 0 → TableBack s c → TableFound s c b
@@ -167,7 +155,7 @@ table-piece-return s c b bytes t p q some code later =
     let n = k .n in
     let one : n ≡ 1 = count-one (c .limit) n (rw slot at (k .counts)) in
     let a = allowed-piece c (k .kind) (rw slot at (k .allowed)) in
-    let v = later (pieceAt n (k .little) c) b (omega arith) (piece-in s c n (k .little) t (k .nine)) (omega arith) (rw (slot, piece-opened c (k .little) (k .kind) n, piece-taken c (pieceAt n (k .little) c) (k .kind) n b) at (k .on-with)) in
-    let none-open : v .0 ≡ [] = no-list (v .0) (let z = v .4 .points-number in omega arith) in
+    let v = later (pieceAt n (k .little) c) b (omega arith) (still-in 9 (c .points) n (c .parts - 1) (k .little) t (k .nine)) (omega arith) (rw (slot, piece-opened c (k .little) (k .kind) n, piece-taken c (pieceAt n (k .little) c) (k .kind) n b) at (k .on-with)) in
+    let none-open : v .0 ≡ [] = no-list (v .0) (let z = v .4 .polygon .points-number in omega arith) in
     let st : TableStands s (pieceAt n (k .little) c) b [] (v .1) (v .2) (v .3) = rw none-open at (v .4) in
     ([], [], ringed (k .little) (a .0) (v .1) then v .2, v .3, piece-stood s c b (k .little) (a .0) n (v .1) (v .2) (v .3) p q some one (a .2) (rw (← a .1) at (k .bytes)) st)

@@ -46,5 +46,3 @@ pieces-spec =
     loop-again
     (λ c. c .before .loop .inv .long)
     (λ c. ends (c .before .loop .inv) (c .loop-test .left)))
-
--- x
