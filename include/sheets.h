@@ -16,8 +16,9 @@
        entries at once. A thread that calls needs 512 KiB of free stack, SHEETS_STACK.
 
    The codes are those of refusals.def, beside this file: what each item is, and a sentence for each. The item of codes 1 to 6 and 8 is a member, the place in
-   the sheet, the table being 1 and 0 the sheet's own header. Triangles and polygons are numbered from 1, in order. sheets.hpp has the entries for C++
-   with ordinary types. */
+   the sheet, the table being 1 and 0 the sheet's own header. Triangles and polygons are numbered from 1, in order. Below, an entry's refusals stand in the
+   order in which they are looked for. "20/21" is one stage: polygons are judged in number order, and the first that is refused has 20 if no set of triangles
+   carries it, 21 if it has no ground, that is, if all its lines cancel. sheets.hpp has the entries for C++ with ordinary types. */
 #ifndef SHEETS_H
 #define SHEETS_H
 
@@ -59,16 +60,16 @@ uint64_t sheet_numbers(const uint8_t *sheet, size_t sheet_len, uint8_t *out, siz
 uint64_t sheet_write(const uint8_t *numbers, size_t numbers_len, uint8_t *out, size_t out_len);
 
 /* The owners of each triangle before repair, in table order: a little-endian uint64 each, whose bit k-1 stands for polygon k. No bit: a gap; more
-   than one: an overlap. Item: triangles. Refusals: 1 to 8, 10, 11, 12, 20, 40. */
+   than one: an overlap. Item: triangles. Refusals: 1 to 8, 10, 11, 12, 20/21, 40. */
 uint64_t sheet_owner_sets(const uint8_t *sheet, size_t sheet_len, uint8_t *out, size_t out_len);
 
 /* The number of the one polygon that owns each triangle after repair, in table order, one byte each. Item: triangles. Refusals: 1 to 8, 10, 11, 12,
-   20, 30, 40. */
+   20/21, 30 (the sheet has no polygons), 40. */
 uint64_t sheet_owners(const uint8_t *sheet, size_t sheet_len, uint8_t *out, size_t out_len);
 
 /* The boundary sides of a polygon after repair: each side from u to v of its triangles whose reverse is no side of those, as ux, uy, vx, vy in
-   little-endian int32, by triangle and then ab, bc, ca. A polygon that owns nothing has none. Item: sides. Refusals: 1 to 8, 10, 11, 12, 20,
-   41, 30, 40. */
+   little-endian int32, by triangle and then ab, bc, ca. A polygon that owns nothing after repair, since all its ground
+   went to others, has none. Item: sides. Refusals: 1 to 8, 10, 11, 12, 20/21, 41, 30 (never, since a polygon of the sheet has ground), 40. */
 uint64_t sheet_boundary(const uint8_t *sheet, size_t sheet_len, uint32_t polygon, uint8_t *out, size_t out_len);
 
 /* The printed listing as ASCII text: the sheet, its polygons with their double areas in square millimetres, gaps, overlaps, the verdict, what each

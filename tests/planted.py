@@ -20,7 +20,8 @@ ROOT = os.path.dirname(os.path.dirname(os.path.abspath(__file__)))
 BUILD = os.path.join(ROOT, "target", "hosts", "planted")
 TARGET, RUN = os.environ.get("TARGET", "x86_64-unknown-linux-gnu"), os.environ.get("RUN", "")
 # What is built and tested for a fault in a file, by how the file's path begins; and which of the two copies has it.
-PARTS = (("include/", "header", "cpp"), ("hosts/cpp/", "checker", "cpp"), ("hosts/rust/src/bin/", "gate", "rust"), ("hosts/rust/", "crate", "rust"))
+PARTS = (("include/refusals.def", "checker", "cpp"), ("include/", "header", "cpp"), ("hosts/cpp/", "checker", "cpp"),
+         ("hosts/rust/src/bin/", "gate", "rust"), ("hosts/rust/", "crate", "rust"))
 
 
 def edits():

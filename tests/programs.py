@@ -224,6 +224,9 @@ def sentences(programs, cases):
         "triangle 3 has a side of 2, triangle 4 one of 1": "refused 11 3: triangle 3 has a side of an earlier triangle",
         "a triangle far from another": "refused 12 0: the triangles don't make up the frame",
         "not-carried": "refused 20 2: no set of triangles carries polygon 2",
+        "no-ground": "refused 21 2: polygon 2 has no ground: its lines run there and back and cancel out",
+        "polygon 1 without ground, 2 not carried": "refused 21 1: polygon 1 has no ground: its lines run there and back and cancel out",
+        "polygon 1 not carried, 2 without ground": "refused 20 1: no set of triangles carries polygon 1",
     }
     paths = [os.path.join(cases, name + ".wkb") for name in wanted]
     return programs.same("refusals in words", paths, [line(path, said) for path, said in zip(paths, wanted.values())])

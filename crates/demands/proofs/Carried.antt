@@ -1,25 +1,28 @@
--- Demand 3: "Take any table of triangles that passes the three table rules, and any polygon of the sheet with no refused one before it. The
+-- Demand 3, with request No. 2: "Take any table of triangles that passes the three table rules, and any polygon of the sheet with no refused one before it. The
 -- polygon is refused as not carried exactly if no set of triangles has the polygon's boundary as its own. Otherwise there is just one such
--- set, it is the set answered, and its triangles' areas add up to the area worked out from the polygon's corners alone." Assumes nothing.
-use mathlib.Core.Path.{_≡_, refl, subst}
-use mathlib.Core.Logic.{_↔_, inl, inr}
+-- set, it is the set answered, and its triangles' areas add up to the area worked out from the polygon's corners alone." What it says of the set answered
+-- "holds for polygons refused neither 20 nor 21." Assumes nothing.
+use mathlib.Core.Path.{_≡_, refl, sym, _∙_, ap, subst}
+use mathlib.Core.Logic.{_↔_, _⊎_, inl, inr}
 use mathlib.Core.Bool.{Bool, true, false}
 use mathlib.Core.List.{List, []}
-use Prim.Native.Nat.{ℕ, suc, _-_, _≤_}
+use Prim.Native.Nat.{ℕ, suc, _-_, _≤_, _<_}
 use native.Mathlib.Omega.{arith}
 use lib.Dec.{eqb}
+use lib.IntN.{pos}
 use lib.ListN.{length, getD}
+use lib.Signed.{_<ℤ_}
 use Rattle.whole.specs.Sums.{Among}
 use Rattle.plane.specs.Points.{Triangle}
-use Rattle.plane.specs.Members.{Member}
+use Rattle.plane.specs.Members.{Member, doubleArea}
 use Rattle.lent.specs.Stages.{Answer, value, refused}
 use Rattle.table.specs.Table.{frameEdges, RuleA, RuleB, RuleC, checkTable}
 use Rattle.table.specs.Sets.{SetOf}
 use Rattle.table.proofs.Rules.{passes as by-rules, refused-as}
 use Rattle.owners_marks.specs.Marks.{ownersFrom}
-use Rattle.owners.specs.Judging.{Carries, carried as carriedBy, notCarried, code, judge, AreaOfOwnership}
+use Rattle.owners.specs.Judging.{Carries, Groundless, carried as carriedBy, notCarried, noGround, code, judge, AreaOfOwnership}
 use Rattle.owners.specs.Owners.{judgeFrom}
-use Rattle.owners.proofs.Carried.{answered, answers, not-carried}
+use Rattle.owners.proofs.Carried.{answered, answers, not-carried, no-ground as by-boundary, not-empty, area-above}
 use Rattle.owners_judge.specs.declared.Judging.{Judging}
 use Rattle.owners_judge.specs.declared.Judging.the-variants.{Carried as Yes}
 use Rattle.owners_judge.specs.Judged.{judgedOf}
@@ -30,10 +33,10 @@ use Rattle.judged.specs.Judged.{Judged, judgedSheet}
 use Rattle.judged.proofs.Stages.{polygons-value, sheet-value, sheet-refused, judged-value, judged-refused}
 use Rattle.judged.proofs.Repaired.{rules, owners-of}
 use Rattle.demands.specs.Triangles.{NoArea, RepeatsSide, First}
-use Rattle.demands.specs.Polygons.{NoSet, polygon, EachCarried, FirstNotCarried}
+use Rattle.demands.specs.Polygons.{NoSet, polygon, EachSound, FirstFaulty}
 use Rattle.demands.proofs.Table.{refused-A, refused-B, refused-C}
-use Rattle.demands.proofs.Stages.{read-lawful}
-use Rattle.demands.proofs.Order.{is-first, first-is}
+use Rattle.demands.proofs.Stages.{read-lawful, no-higher}
+use Rattle.demands.proofs.Order.{is-first, first-no-set, first-no-ground}
 
 -- A table passes exactly if the three table rules hold.
 pub passes : (table : List Triangle) → (checkTable (frameEdges table) table ≡ value tt) ↔ (RuleA table × RuleB table × RuleC (frameEdges table) table)
@@ -55,45 +58,71 @@ breaks-C = refused-C
 -- other set has it, and the double areas of its triangles add up to the polygon's. (Rules A and B suffice, so that it holds for any outline.)
 pub carried : (table : List Triangle) → RuleA table → RuleB table → (m : Member)
     → ((judge table m ≡ notCarried) ↔ NoSet table m)
-    × ((s : List Bool) → SetOf table s → Carries table s m → judge table m ≡ carriedBy s)
+    × ((judge table m ≡ noGround) ↔ Groundless table m)
+    × ((s : List Bool) → SetOf table s → Carries table s m → (Groundless table m → ⊥) → judge table m ≡ carriedBy s)
     × ((s : List Bool) → judge table m ≡ carriedBy s → AreaOfOwnership table m s)
-carried table area once m = (not-carried table m area once, answers table m area once, answered table m area once)
+carried table area once m = (not-carried table m area once, by-boundary table m area once, answers table m area once, answered table m area once)
 
--- So for the code that judges a polygon, which answers 20 or its labels: 20 exactly if no set has the polygon's boundary, and else the labels are its set.
+-- The set of a polygon that is refused neither way is not empty, and the polygon has a double area above 0.
+pub has-ground : (table : List Triangle) → RuleA table → RuleB table → (m : Member) (s : List Bool) → AreaOfOwnership table m s
+    → ((t : ℕ) × (t < length s) × (getD s t false ≡ true)) × (pos 0 <ℤ doubleArea m)
+has-ground table area once m s o = (not-empty table m area once s o, area-above table m area once s o)
+
+-- So for the code that judges a polygon, which answers 20, 21 or its labels: 20 exactly if no set has the polygon's boundary, 21 exactly if that is zero
+-- everywhere, and else the labels are its set.
 pub judging-says : (table : List Triangle) → RuleA table → RuleB table → (m : Member) (r : Judging) (labels : List Bool) → judgedOf r labels ≡ judge table m
-    → ((code (judgedOf r labels) ≡ 20) ↔ NoSet table m) × (r ≡ Yes → AreaOfOwnership table m labels)
+    → ((code (judgedOf r labels) ≡ 20) ↔ NoSet table m) × ((code (judgedOf r labels) ≡ 21) ↔ Groundless table m) × (r ≡ Yes → AreaOfOwnership table m labels)
 judging-says table area once m = code-says table m area once
 
 -- ---- whole sheets
--- The number given with 20 is that of the first polygon that no set of triangles carries, and 20 is given exactly if there is one, in a sheet
--- that is read and whose table passes the rules.
-pub first-not-carried : (s : List ℕ) (k : ℕ)
-    → (judgedSheet s ≡ refused 20 k) ↔ ((n : Sheet) × (readSheet members s ≡ value n) × (checkTable (frameEdges (n .table)) (n .table) ≡ value tt) × FirstNotCarried (n .table) (n .polygons) k)
-first-not-carried s k = (to, λ (n, p, e, f). judged-refused s 20 k .1 (inr (n, p, sheet-refused n 20 k .1 (inr (e, first-is (n .table) e (n .polygons) k f)))))
+-- The number given with 20 is that of the first polygon that no set of triangles carries, the number given with 21 that of the first without ground, where
+-- those before it are refused neither way; and each is given exactly if there is one, in a sheet that is read and whose table passes the rules.
+pub first-refused : (s : List ℕ) (code k : ℕ) → ((code ≡ 20) ⊎ (code ≡ 21))
+    → (judgedSheet s ≡ refused code k) ↔ ((n : Sheet) × (readSheet members s ≡ value n) × (checkTable (frameEdges (n .table)) (n .table) ≡ value tt)
+    × (((code ≡ 20) × FirstFaulty NoSet (n .table) (n .polygons) k) ⊎ ((code ≡ 21) × FirstFaulty Groundless (n .table) (n .polygons) k)))
+first-refused s code k which = (to, from)
   where
-    to : judgedSheet s ≡ refused 20 k → (n : Sheet) × (readSheet members s ≡ value n) × (checkTable (frameEdges (n .table)) (n .table) ≡ value tt) × FirstNotCarried (n .table) (n .polygons) k
-    to e = elim (judged-refused s 20 k .0 e) [
-      | inl r ↦ absurd (read-lawful s 20 k r .1)
-      | inr (n, p, q) ↦ elim (sheet-refused n 20 k .0 q) [
-        | inl r ↦ absurd (elim (refused-as (frameEdges (n .table)) (n .table) 20 k .0 r) [ inl a ↦ omega (arith, a .0) | inr (inl b) ↦ omega (arith, b .0) | inr (inr c) ↦ omega (arith, c .0) ])
-        | inr (r, f) ↦ (n, p, r, is-first (n .table) r (n .polygons) 20 k f .1)
+    high : 20 ≤ code
+    high = elim which [ inl e ↦ omega arith | inr e ↦ omega arith ]
+
+    to : judgedSheet s ≡ refused code k → (n : Sheet) × (readSheet members s ≡ value n) × (checkTable (frameEdges (n .table)) (n .table) ≡ value tt)
+        × (((code ≡ 20) × FirstFaulty NoSet (n .table) (n .polygons) k) ⊎ ((code ≡ 21) × FirstFaulty Groundless (n .table) (n .polygons) k))
+    to e = elim (judged-refused s code k .0 e) [
+      | inl r ↦ absurd (no-higher code k (omega (arith, high)) (read-lawful s code k r .1))
+      | inr (n, p, q) ↦ elim (sheet-refused n code k .0 q) [
+        | inl r ↦ absurd (elim (refused-as (frameEdges (n .table)) (n .table) code k .0 r) [ inl a ↦ omega (arith, a .0, high) | inr (inl b) ↦ omega (arith, b .0, high) | inr (inr c) ↦ omega (arith, c .0, high) ])
+        | inr (r, f) ↦ (n, p, r, is-first (n .table) r (n .polygons) code k f)
       ]
     ]
 
--- A sheet has owners exactly if it is read, its table passes the rules and some set of triangles carries each polygon.
-pub all-carried : (s : List ℕ) (n : Sheet)
+    from : (n : Sheet) × (readSheet members s ≡ value n) × (checkTable (frameEdges (n .table)) (n .table) ≡ value tt)
+        × (((code ≡ 20) × FirstFaulty NoSet (n .table) (n .polygons) k) ⊎ ((code ≡ 21) × FirstFaulty Groundless (n .table) (n .polygons) k)) → judgedSheet s ≡ refused code k
+    from (n, p, e, f) = judged-refused s code k .1 (inr (
+      n,
+      p,
+      sheet-refused n code k .1 (inr (
+        e,
+        elim f [
+          | inl (c, g) ↦ first-no-set (n .table) e (n .polygons) k g ∙ ap (λ c. refused c k) (sym c)
+          | inr (c, g) ↦ first-no-ground (n .table) e (n .polygons) k g ∙ ap (λ c. refused c k) (sym c)
+        ],
+      )),
+    ))
+
+-- A sheet has owners exactly if it is read, its table passes the rules and each polygon is refused neither way.
+pub all-sound : (s : List ℕ) (n : Sheet)
     → ((owners : List (List ℕ)) × (judgedSheet s ≡ value (record { sheet = n; owners = owners })))
-    ↔ ((readSheet members s ≡ value n) × (checkTable (frameEdges (n .table)) (n .table) ≡ value tt) × EachCarried (n .table) (n .polygons))
-all-carried s n = (to, from)
+    ↔ ((readSheet members s ≡ value n) × (checkTable (frameEdges (n .table)) (n .table) ≡ value tt) × EachSound (n .table) (n .polygons))
+all-sound s n = (to, from)
   where
     to : (owners : List (List ℕ)) × (judgedSheet s ≡ value (record { sheet = n; owners = owners }))
-        → (readSheet members s ≡ value n) × (checkTable (frameEdges (n .table)) (n .table) ≡ value tt) × EachCarried (n .table) (n .polygons)
+        → (readSheet members s ≡ value n) × (checkTable (frameEdges (n .table)) (n .table) ≡ value tt) × EachSound (n .table) (n .polygons)
     to (owners, e) =
         let j : Judged = record { sheet = n; owners = owners } in
         let (p, q) = judged-value s j .0 e in
-        (p, sheet-value n j .0 q .1, λ k low high. let o = owners-of {j = j} q (k - 1) (omega arith) in (o .marks, o .of-polygon .of-table, o .of-polygon .carries))
+        (p, sheet-value n j .0 q .1, λ k low high. let o = owners-of {j = j} q (k - 1) (omega arith) in ((o .marks, o .of-polygon .of-table, o .of-polygon .carries), o .of-polygon .ground))
 
-    from : (readSheet members s ≡ value n) × (checkTable (frameEdges (n .table)) (n .table) ≡ value tt) × EachCarried (n .table) (n .polygons)
+    from : (readSheet members s ≡ value n) × (checkTable (frameEdges (n .table)) (n .table) ≡ value tt) × EachSound (n .table) (n .polygons)
         → (owners : List (List ℕ)) × (judgedSheet s ≡ value (record { sheet = n; owners = owners }))
     from (p, e, each) = go (judgeFrom (n .table) 1 (n .polygons)) refl
       where
@@ -102,7 +131,10 @@ all-carried s n = (to, from)
             let owners = ownersFrom (length (n .table)) 1 l in
             let j : Judged = record { sheet = n; owners = owners } in
             (owners, judged-value s j .1 (p, sheet-value n j .1 (refl, e, polygons-value (n .table) (n .polygons) owners .1 (l, q, refl))))
-        go (refused c k) q = absurd (let f = is-first (n .table) e (n .polygons) c k q .1 in let (t, u, v) = each k (f .low) (f .high) in f .none t u v)
+        go (refused c k) q = absurd (elim (is-first (n .table) e (n .polygons) c k q) [
+          | inl (z, f) ↦ let ((t, u, v), g) = each k (f .low) (f .high) in f .fault t u v
+          | inr (z, f) ↦ each k (f .low) (f .high) .1 (f .fault)
+        ])
 
 -- Then the triangles that polygon k owns are the set answered for it, of which the first theorem speaks.
 pub sets-answered : (s : List ℕ) (j : Judged) → judgedSheet s ≡ value j → (k : ℕ) → 1 ≤ k → k ≤ length (j .sheet .polygons)
@@ -113,6 +145,6 @@ sets-answered s j e k low high =
     let r = rules q in
     let n : suc (k - 1) ≡ k = omega arith in (
       b .marks,
-      answers (j .sheet .table) (polygon (j .sheet .polygons) k) (r .0) (r .1) (b .marks) (b .of-polygon .of-table) (b .of-polygon .carries),
+      answers (j .sheet .table) (polygon (j .sheet .polygons) k) (r .0) (r .1) (b .marks) (b .of-polygon .of-table) (b .of-polygon .carries) (b .of-polygon .ground),
       λ t. subst (λ i. Among eqb i (getD (j .owners) t []) ↔ (getD (b .marks) t false ≡ true)) n (b .are t),
     )

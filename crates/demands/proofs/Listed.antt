@@ -6,7 +6,7 @@ use mathlib.Core.Bool.{Bool, true, false, _&&_}
 use mathlib.Core.List.{List, [], _∷_}
 use Prim.Native.Nat.{ℕ, zero, suc, _≤_, _<_}
 use native.Mathlib.Omega.{arith}
-use borrow.Author.Tests.{eq-eqb, ne-eqb, lt-leb}
+use borrow.Author.Tests.{eq-eqb}
 use lib.Dec.{T, eqb, leb, ltb, eqb→eq, leb→le, le→leb, ltb→lt}
 use lib.ListN.{length, getD}
 use Rattle.whole.specs.Sums.{All, any}
@@ -17,8 +17,8 @@ use Rattle.sheet_form.specs.Numbers.{members}
 use Rattle.sheet.specs.Read.{readSheet}
 use Rattle.demands.specs.Refusals.{Row, alone, rows, inRow, Listed}
 use Rattle.demands.specs.Entries.{Entry, numbers, write, ownerSets, owners, boundary, listing, outcomeOf}
-use Rattle.demands.specs.Answers.{Refused, unread, breaks-A, breaks-B, breaks-C, not-carried}
-use Rattle.demands.proofs.Stages.{read-lawful, read-limits}
+use Rattle.demands.specs.Answers.{Refused, unread, breaks-A, breaks-B, breaks-C, not-carried, no-ground}
+use Rattle.demands.proofs.Stages.{read-lawful, no-higher, read-limits}
 use Rattle.demands.proofs.Answers.{numbers-refuses, write-refuses, owner-sets-refuses, owners-refuses, boundary-refuses, listing-refuses-nothing}
 
 -- ---- the table
@@ -78,9 +78,6 @@ code-fits code item = go rows (every-all small Small small-is rows tt)
         choose false f g t = g t
 
 -- ---- from reading
-pub no-higher : (code item : ℕ) → 9 ≤ code → Lawful members code item → ⊥
-no-higher code item h = rw (ne-eqb code 0 (λ e. omega arith), ne-eqb code 7 (λ e. omega arith), lt-leb code 8 h) (λ t. t)
-
 lawful-listed : (code item : ℕ) → (code ≡ 0 → ⊥) × Lawful members code item → Listed code item
 lawful-listed zero item h = absurd (h .0 refl)
 lawful-listed (suc zero) item h = in-row 0 item (omega arith) (omega arith) (leb→le item 65 (h .1))
@@ -104,6 +101,7 @@ module _ (s : List ℕ) (all : All (λ b. b < 256) s) where
   refused-listed (breaks-B {k} n p a f) = in-row 9 k (omega arith) (f .low) (omega (arith, f .high, read-limits s all n p .few))
   refused-listed (breaks-C n p a b c) = in-row 10 0 (omega arith) (omega arith) (omega arith)
   refused-listed (not-carried {k} n p r f) = in-row 11 k (omega arith) (f .low) (omega (arith, f .high, read-limits s all n p .few-polygons))
+  refused-listed (no-ground {k} n p r f) = in-row 12 k (omega arith) (f .low) (omega (arith, f .high, read-limits s all n p .few-polygons))
 
   -- A code of the table whose item is 0.
   alone-listed : (i : ℕ) → i < length rows → row i .from ≡ 0 → {code item : ℕ} → code ≡ row i .code → item ≡ 0 → Listed code item
@@ -111,14 +109,14 @@ module _ (s : List ℕ) (all : All (λ b. b < 256) s) where
 
   pub outcome-listed : (e : Entry) (code item : ℕ) → outcomeOf e s ≡ refused code item → Listed code item
   outcome-listed numbers code item q = unread-listed code item (numbers-refuses s all code item .0 q)
-  outcome-listed write code item q = let (c, i, f) = write-refuses s all code item .0 q in alone-listed 15 (omega arith) refl c i
+  outcome-listed write code item q = let (c, i, f) = write-refuses s all code item .0 q in alone-listed 16 (omega arith) refl c i
   outcome-listed ownerSets code item q = refused-listed (owner-sets-refuses s all code item .0 q)
-  outcome-listed owners code item q = ⊎-elim refused-listed (λ (c, i, n, sets, h, z). alone-listed 12 (omega arith) refl c i) (owners-refuses s all code item .0 q)
+  outcome-listed owners code item q = ⊎-elim refused-listed (λ (c, i, n, sets, h, z). alone-listed 13 (omega arith) refl c i) (owners-refuses s all code item .0 q)
   outcome-listed (boundary k) code item q =
-      ⊎-elim refused-listed (⊎-elim (λ (c, i, n, sets, h, off). alone-listed 14 (omega arith) refl c i) (λ (c, i, n, sets, h, on, z). alone-listed 12 (omega arith) refl c i))
+      ⊎-elim refused-listed (⊎-elim (λ (c, i, n, sets, h, off). alone-listed 15 (omega arith) refl c i) (λ (c, i, n, sets, h, on, z). alone-listed 13 (omega arith) refl c i))
       (boundary-refuses s all k code item .0 q)
   outcome-listed listing code item q = absurd (listing-refuses-nothing s all code item q)
 
 -- The code of an answer that is too long.
 pub short-listed : Listed 40 0
-short-listed = in-row 13 0 (omega arith) (omega arith) (omega arith)
+short-listed = in-row 14 0 (omega arith) (omega arith) (omega arith)

@@ -1,19 +1,23 @@
 -- Demand 2: ".. repair and boundaries follow document 01", for every sheet that bytes come to. Assumes nothing.
-use mathlib.Core.Path.{_≡_}
+use mathlib.Core.Path.{_≡_, refl, subst}
 use mathlib.Core.Logic.{_↔_}
 use mathlib.Core.List.{List, [], _∷_}
 use Prim.Native.Nat.{ℕ, _≤_, _<_}
+use native.Mathlib.Decide.{decLe}
 use native.Mathlib.Omega.{arith}
+use lib.Dec.{eqb}
 use lib.IntN.{pos}
 use lib.ListN.{length, getD}
 use lib.Signed.{_≤ℤ_}
 use Rattle.whole.specs.Sums.{All, Among, count, sum}
+use Rattle.whole.proofs.Sums.{all-at}
 use Rattle.plane.specs.Points.{Edge, sameEdge, double}
 use Rattle.plane.specs.Boundaries.{boundary, sidesOf}
 use Rattle.plane.specs.Members.{doubleArea}
 use Rattle.lent.specs.Stages.{value, refused}
 use Rattle.table.specs.Table.{corners, frameOf, rectangle}
 use Rattle.table.specs.Opposites.{opposites}
+use Rattle.owners.proofs.Carried.{not-empty}
 use Rattle.repair_regions.specs.Regions.{from}
 use Rattle.repair.specs.Repair.{largest}
 use Rattle.repair.specs.OneOwner.{ownersAt, OneOwner, LargestThere}
@@ -40,6 +44,23 @@ module _ (s : List ℕ) (bytes : All (λ b. b < 256) s) (j : Judged) (e : judged
   -- "Repair can't be done exactly if no triangle has an owner": 30, item 0, and no other refusal.
   pub unrepaired : (code item : ℕ) → (repairOf j ≡ refused code item) ↔ ((code ≡ 30) × (item ≡ 0) × ((t : ℕ) → t < length (j .owners) → ownersAt (j .owners) t ≡ []))
   unrepaired = Repaired.unrepaired comes held
+
+  -- So 30 is given exactly if the sheet has no polygons: a polygon that is refused neither way owns a triangle.
+  pub no-polygons : (repairOf j ≡ refused 30 0) ↔ (length (j .sheet .polygons) ≡ 0)
+  no-polygons = (λ r. to (decLe 1 (length (j .sheet .polygons))) (unrepaired 30 0 .0 r .2), λ z. unrepaired 30 0 .1 (refl, refl, λ t h. none z (ownersAt (j .owners) t) (all-at (All (λ k. (1 ≤ k) × (k ≤ length (j .sheet .polygons)))) [] (j .owners) t (Repaired.of-polygons comes) h)))
+    where
+      none : length (j .sheet .polygons) ≡ 0 → (o : List ℕ) → All (λ k. (1 ≤ k) × (k ≤ length (j .sheet .polygons))) o → o ≡ []
+      none z [] h = refl
+      none z (k ∷ o) h = absurd (omega (arith, h .0 .0, h .0 .1))
+
+      to : Dec (1 ≤ length (j .sheet .polygons)) → ((t : ℕ) → t < length (j .owners) → ownersAt (j .owners) t ≡ []) → length (j .sheet .polygons) ≡ 0
+      to (no n) h = omega arith
+      to (yes y) h =
+          let rules = Repaired.rules comes in
+          let o = Repaired.owners-of comes 0 (omega arith) in
+          let (t, l, e) = not-empty (j .sheet .table) _ (rules .0) (rules .1) (o .marks) (o .of-polygon) in
+          let a = subst (Among eqb 1) (h t (omega (arith, Repaired.owners-many comes, o .of-polygon .of-table))) (o .are t .1 e) in
+          absurd (omega arith)
 
   -- "The sheet is clean if every triangle has exactly one" owner: then repair has an answer and changes nothing.
   pub clean-kept : ((t : ℕ) → t < length (j .sheet .table) → length (ownersAt (j .owners) t) ≡ 1)

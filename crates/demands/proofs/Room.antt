@@ -30,12 +30,12 @@ use Rattle.sheet_written.proofs.Sized.{written-small}
 use Rattle.sheet_written.proofs.Trip.{written-bytes, round-trip, form-small, read-written}
 use Rattle.outcomes.specs.Entries.{formOf, ownedSides}
 use Rattle.outcomes.proofs.Sized.{line-most, listing-most, sides-most}
-use Rattle.demands.specs.Answers.{Refused, unread, breaks-A, breaks-B, breaks-C, not-carried}
+use Rattle.demands.specs.Answers.{Refused, unread, breaks-A, breaks-B, breaks-C, not-carried, no-ground}
 use Rattle.demands.specs.Entries.{Entry, numbers, write, ownerSets, owners, boundary, listing, outcomeOf, roomOf}
-use Rattle.demands.proofs.Stages.{read-lawful, read-limits}
+use Rattle.demands.proofs.Stages.{read-lawful, no-higher, read-limits}
 use Rattle.demands.proofs.Sets.{with-owners, owners-each}
 use Rattle.demands.proofs.After.{same-answer}
-use Rattle.demands.proofs.Listed.{no-higher, code-fits, outcome-listed}
+use Rattle.demands.proofs.Listed.{code-fits, outcome-listed}
 use Rattle.demands.proofs.Answers.{numbers-answers, numbers-refuses, write-answers, write-refuses, owner-sets-answers, owner-sets-refuses, owners-answers, owners-refuses, boundary-answers, boundary-refuses, listing-answers, listing-refuses-nothing}
 
 -- The bytes of sides, 16 each.
@@ -59,6 +59,7 @@ module _ (s : List ℕ) (all : All (λ b. b < 256) s) where
   refused-low (breaks-B n p a f) = omega arith
   refused-low (breaks-C n p a b c) = omega arith
   refused-low (not-carried n p r f) = omega arith
+  refused-low (no-ground n p r f) = omega arith
 
   not-forty : (e : Entry) (code item : ℕ) → outcomeOf e s ≡ refused code item → code ≡ 40 → ⊥
   not-forty numbers code item q z = omega (arith, unread-low code item (numbers-refuses s all code item .0 q))

@@ -33,10 +33,10 @@ use Rattle.judged.specs.Judged.{Judged, judgedSheet}
 use Rattle.judged.proofs.Repaired.{owners-many}
 use Rattle.judged.proofs.Stages.{polygons-value, sheet-value, sheet-refused, judged-value, judged-refused}
 use Rattle.demands.specs.Polygons.{polygon}
-use Rattle.demands.specs.Answers.{HasOwners, HasSets, Refused, unread, breaks-A, breaks-B, breaks-C, not-carried}
+use Rattle.demands.specs.Answers.{HasOwners, HasSets, Refused, unread, breaks-A, breaks-B, breaks-C, not-carried, no-ground}
 use Rattle.demands.proofs.Table.{refused-A, refused-B, refused-C}
 use Rattle.demands.proofs.Order.{is-first}
-use Rattle.demands.proofs.Carried.{first-not-carried, all-carried}
+use Rattle.demands.proofs.Carried.{first-refused, all-sound}
 
 -- A sheet with the owners of its triangles.
 abbrev pub with-owners : Sheet → List (List ℕ) → Judged
@@ -49,7 +49,7 @@ each-of : (table : List Triangle) → RuleA table → RuleB table → (ms : List
 each-of table area once [] [] e h = tt
 each-of table area once [] (s ∷ l) e h = absurd (omega arith)
 each-of table area once (m ∷ ms) [] e h = absurd (omega arith)
-each-of table area once (m ∷ ms) (s ∷ l) e h = (answers table m area once s (h 1 (omega arith) (omega arith) .of-table) (h 1 (omega arith) (omega arith) .carries), each-of table area once ms l (omega arith) behind)
+each-of table area once (m ∷ ms) (s ∷ l) e h = (answers table m area once s (h 1 (omega arith) (omega arith) .of-table) (h 1 (omega arith) (omega arith) .carries) (h 1 (omega arith) (omega arith) .ground), each-of table area once ms l (omega arith) behind)
   where
     behind : (k : ℕ) → 1 ≤ k → k ≤ length ms → AreaOfOwnership table (polygon ms k) (getD l (k - 1) [])
     behind zero low high = absurd (omega arith)
@@ -134,7 +134,7 @@ module _ {s : List ℕ} {n : Sheet} where
     where
       from : HasSets s n sets → (owners : List (List ℕ)) × HasOwners s n owners × (sets ≡ map setOf owners)
       from h =
-          let (owners, e) = all-carried s n .1 (h .read, passes (frameEdges (n .table)) (n .table) .1 (h .passes), λ k low high. let (marks, o, b) = h .bits k low high in (marks, o .of-table, o .carries)) in
+          let (owners, e) = all-sound s n .1 (h .read, passes (frameEdges (n .table)) (n .table) .1 (h .passes), λ k low high. let (marks, o, b) = h .bits k low high in ((marks, o .of-table, o .carries), o .ground)) in
           let o = has-owners s n owners .0 e in
           (owners, o, one-list h (sets-of owners o))
 
@@ -156,7 +156,10 @@ module _ (s : List ℕ) where
         | inl r ↦ unread r
         | inr (n, p, q) ↦ elim (sheet-refused n code item .0 q) [
           | inl r ↦ by-table n p r
-          | inr (r, f) ↦ let (c, first) = is-first (n .table) r (n .polygons) code item f in subst (λ c. Refused s c item) (sym c) (not-carried n p (passes (frameEdges (n .table)) (n .table) .0 r) first)
+          | inr (r, f) ↦ elim (is-first (n .table) r (n .polygons) code item f) [
+            | inl (c, first) ↦ subst (λ c. Refused s c item) (sym c) (not-carried n p (passes (frameEdges (n .table)) (n .table) .0 r) first)
+            | inr (c, first) ↦ subst (λ c. Refused s c item) (sym c) (no-ground n p (passes (frameEdges (n .table)) (n .table) .0 r) first)
+          ]
         ]
       ]
 
@@ -168,7 +171,8 @@ module _ (s : List ℕ) where
       from (breaks-A {k} n p f) = table-refused n 10 k p (refused-A (n .table) k .1 f)
       from (breaks-B {k} n p a f) = table-refused n 11 k p (refused-B (n .table) k .1 (a, f))
       from (breaks-C n p a b c) = table-refused n 12 0 p (refused-C (n .table) 0 .1 (refl, a, b, c))
-      from (not-carried {k} n p r f) = first-not-carried s k .1 (n, p, passes (frameEdges (n .table)) (n .table) .1 r, f)
+      from (not-carried {k} n p r f) = first-refused s 20 k (inl refl) .1 (n, p, passes (frameEdges (n .table)) (n .table) .1 r, inl (refl, f))
+      from (no-ground {k} n p r f) = first-refused s 21 k (inr refl) .1 (n, p, passes (frameEdges (n .table)) (n .table) .1 r, inr (refl, f))
 
   -- ---- what an entry goes on to
   module _ {A : Type 0} (next : Judged → Answer A) where

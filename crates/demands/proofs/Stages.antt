@@ -3,9 +3,9 @@ use mathlib.Core.Path.{_≡_, refl, sym, _∙_, subst}
 use mathlib.Core.Bool.{Bool, true, false, cond}
 use mathlib.Core.List.{List, map}
 use mathlib.Core.Option.{Option, none, some}
-use Prim.Native.Nat.{ℕ, _<_}
+use Prim.Native.Nat.{ℕ, _≤_, _<_}
 use native.Mathlib.Omega.{arith}
-use borrow.Author.Tests.{eqb-false}
+use borrow.Author.Tests.{eqb-false, ne-eqb, lt-leb}
 use lib.Dec.{eqb}
 use Rattle.whole.specs.Sums.{All}
 use Rattle.plane.specs.Corners.{millimetres}
@@ -37,3 +37,7 @@ read-lawful s code item e = go (eqb (readingOf members s .code) 0) refl (sheetIn
 -- A sheet that is read is within the limits.
 pub read-limits : (s : List ℕ) → All (λ b. b < 256) s → (n : Sheet) → readSheet members s ≡ value n → SheetHeld members n (readingOf members s .numbers)
 read-limits s bytes n e = reads-held members (omega arith) s bytes n (read-sheet-is members s n .0 e) .0
+
+-- No code of reading is above 8.
+pub no-higher : (code item : ℕ) → 9 ≤ code → Lawful members code item → ⊥
+no-higher code item h = rw (ne-eqb code 0 (λ e. omega arith), ne-eqb code 7 (λ e. omega arith), lt-leb code 8 h) (λ t. t)

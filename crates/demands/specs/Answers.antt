@@ -10,11 +10,11 @@ use Rattle.lent.specs.Stages.{value, refused}
 use Rattle.table.specs.Table.{frameEdges, RuleA, RuleB, RuleC}
 use Rattle.table.specs.Opposites.{opposites}
 use Rattle.owners_marks.specs.Marks.{ownersFrom}
-use Rattle.owners.specs.Judging.{AreaOfOwnership}
+use Rattle.owners.specs.Judging.{Groundless, AreaOfOwnership}
 use Rattle.repair.specs.OneOwner.{OneOwner, LargestThere}
 use Rattle.sheet_form.specs.Numbers.{Sheet, members}
 use Rattle.sheet.specs.Read.{readSheet}
-use Rattle.demands.specs.Polygons.{polygon, FirstNotCarried, BitsAre}
+use Rattle.demands.specs.Polygons.{NoSet, polygon, FirstFaulty, BitsAre}
 use Rattle.demands.specs.Triangles.{Passes, NoArea, RepeatsSide, First}
 
 -- The bytes are read as the sheet n, its table passes the rules, each polygon is carried by its set, the only one, and `owners` has for each triangle,
@@ -37,13 +37,14 @@ pub record HasSets (s : List ℕ) (n : Sheet) (sets : List ℕ) : Type 0 where
   pub no-others : All (λ set. set < 2 ^ length (n .polygons)) sets
 
 -- The bytes are refused before any owner is known, with the first of these codes: that of reading; then, of the sheet n that is read, 10 with the
--- first triangle of no area, 11 with the first that has a side of an earlier one, 12, and 20 with the first polygon that is not carried.
+-- first triangle of no area, 11 with the first that has a side of an earlier one, 12, and 20 or 21 with the first polygon that is not carried or has no ground.
 pub data Refused (s : List ℕ) : ℕ → ℕ → Type 0 where
   unread : {code item : ℕ} → readSheet members s ≡ refused code item → Refused s code item
   breaks-A : {k : ℕ} (n : Sheet) → readSheet members s ≡ value n → First NoArea (n .table) k → Refused s 10 k
   breaks-B : {k : ℕ} (n : Sheet) → readSheet members s ≡ value n → RuleA (n .table) → First RepeatsSide (n .table) k → Refused s 11 k
   breaks-C : (n : Sheet) → readSheet members s ≡ value n → RuleA (n .table) → RuleB (n .table) → (RuleC (frameEdges (n .table)) (n .table) → ⊥) → Refused s 12 0
-  not-carried : {k : ℕ} (n : Sheet) → readSheet members s ≡ value n → Passes (n .table) → FirstNotCarried (n .table) (n .polygons) k → Refused s 20 k
+  not-carried : {k : ℕ} (n : Sheet) → readSheet members s ≡ value n → Passes (n .table) → FirstFaulty NoSet (n .table) (n .polygons) k → Refused s 20 k
+  no-ground : {k : ℕ} (n : Sheet) → readSheet members s ≡ value n → Passes (n .table) → FirstFaulty Groundless (n .table) (n .polygons) k → Refused s 21 k
 
 -- No triangle has an owner.
 abbrev pub NoOwner : List (List ℕ) → Type 0

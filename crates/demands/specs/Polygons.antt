@@ -1,4 +1,5 @@
--- What a sheet comes to by its polygons: refused for the first, in number order, that no set of triangles carries, or else their sets as bits.
+-- What a sheet comes to by its polygons: refused for the first, in number order, that no set of triangles carries or that has no ground, or else their sets as
+-- bits.
 use mathlib.Core.Path.{_≡_}
 use mathlib.Core.Bool.{Bool, false}
 use mathlib.Core.List.{List, []}
@@ -8,7 +9,7 @@ use Rattle.whole.specs.Sums.{bit}
 use Rattle.plane.specs.Points.{Triangle}
 use Rattle.plane.specs.Members.{Member}
 use Rattle.table.specs.Sets.{SetOf}
-use Rattle.owners.specs.Judging.{Carries}
+use Rattle.owners.specs.Judging.{Carries, Groundless}
 
 -- Some set of triangles has the member's boundary as its own; no set has it.
 abbrev pub SomeSet : List Triangle → Member → Type 0
@@ -21,16 +22,19 @@ NoSet table m = (s : List Bool) → SetOf table s → Carries table s m → ⊥
 abbrev pub polygon : List Member → ℕ → Member
 polygon polygons k = getD polygons (k - 1) []
 
--- Some set carries each polygon.
-abbrev pub EachCarried : List Triangle → List Member → Type 0
-EachCarried table polygons = (k : ℕ) → 1 ≤ k → k ≤ length polygons → SomeSet table (polygon polygons k)
+-- The polygon is refused neither way: some set carries it, and it has ground.
+abbrev pub Sound : List Triangle → Member → Type 0
+Sound table m = SomeSet table m × (Groundless table m → ⊥)
 
--- Polygon k is on the sheet, no set carries it, and some set carries each polygon before it.
-pub record FirstNotCarried (table : List Triangle) (polygons : List Member) (k : ℕ) : Type 0 where
+abbrev pub EachSound : List Triangle → List Member → Type 0
+EachSound table polygons = (k : ℕ) → 1 ≤ k → k ≤ length polygons → Sound table (polygon polygons k)
+
+-- Polygon k is on the sheet, it has the fault, and each polygon before it is refused neither way.
+pub record FirstFaulty (Fault : List Triangle → Member → Type 0) (table : List Triangle) (polygons : List Member) (k : ℕ) : Type 0 where
   pub low : 1 ≤ k
   pub high : k ≤ length polygons
-  pub none : NoSet table (polygon polygons k)
-  pub before : (j : ℕ) → 1 ≤ j → j < k → SomeSet table (polygon polygons j)
+  pub fault : Fault table (polygon polygons k)
+  pub before : (j : ℕ) → 1 ≤ j → j < k → Sound table (polygon polygons j)
 
 -- The bits of polygon k in the owner sets are the marks of a set: bit k-1 of a triangle's owner set is 1 where the triangle is marked, else 0.
 abbrev pub BitsAre : List ℕ → ℕ → List Bool → Type 0

@@ -22,8 +22,8 @@ use Rattle.table_count.specs.Counting.{Edged}
 use Rattle.owners_marks.specs.Sets.{ownerSets, marked}
 use Rattle.owners_marks.proofs.Owning.{owner-sets-more, owner-sets-below}
 use Rattle.owners_marks.proofs.Owners.{length-owner-sets}
-use Rattle.owners_judge.specs.declared.Judging.the-variants.{Carried, NotCarried}
-use Rattle.owners.specs.Judging.{carried, notCarried, judge}
+use Rattle.owners_judge.specs.declared.Judging.the-variants.{Carried}
+use Rattle.owners.specs.Judging.{carried, judge}
 use Rattle.owners.specs.Owners.{stageOf, judgeFrom}
 use Rattle.owners_judge.specs.Judged.{judgedOf}
 use Rattle.judged_sets.specs.declared.Turn.{Turn}
@@ -131,19 +131,20 @@ module _ {table : List Triangle} {numbers : List ℕ} {ms : List Member} {rest :
         go [] l f s = absurd (omega arith)
         go (m ∷ t) l f s = (m, flatMap memberNumbers t ++ rest, record { numbers-at = s ∙ append-assoc (memberNumbers m) (flatMap memberNumbers t) rest; few = f .0 })
 
-    -- The one at the place is not carried: that is what all come to.
-    pub following-refused : {r : Turn} {labels : List Bool} → k < length ms → Turns table numbers at r labels → r .judging ≡ NotCarried → refused 20 (k + 1) ≡ heldSets table ms
+    -- The one at the place is refused: that is what all come to.
+    pub following-refused : {r : Turn} {labels : List Bool} → k < length ms → Turns table numbers at r labels → (c : ℕ) → stageOf (suc k) (judgedOf (r .judging) labels) ≡ refused c (suc k)
+        → refused c (k + 1) ≡ heldSets table ms
     unfolding flatMap
-    following-refused {r} {labels} h turns e = go (w .todo) (w .left) (w .few) (w .stand) (w .comes)
+    following-refused {r} {labels} h turns c e = go (w .todo) (w .left) (w .few) (w .stand) (w .comes)
       where
         go : (todo : List Member) → k + length todo ≡ length ms → All (λ m. length (memberEdges m) ≤ 4096) todo → map millimetres (drop at numbers) ≡ flatMap memberNumbers todo ++ rest
-            → judgeFrom table 1 ms ≡ before (w .done) (judgeFrom table (suc k) todo) → refused 20 (k + 1) ≡ heldSets table ms
+            → judgeFrom table 1 ms ≡ before (w .done) (judgeFrom table (suc k) todo) → refused c (k + 1) ≡ heldSets table ms
         go [] l f s q = absurd (omega arith)
         go (m ∷ t) l f s q =
             let x = turns m (flatMap memberNumbers t ++ rest) (record { numbers-at = s ∙ append-assoc (memberNumbers m) (flatMap memberNumbers t) rest; few = f .0 }) in
-            let y : judge table m ≡ notCarried = sym (x .judged) ∙ ap (λ j. judgedOf j labels) e in
-            ap (refused 20) (add-one k)
-            ∙ sym (ap marks-of (q ∙ ap (λ j. before (w .done) (andThen (stageOf (suc k) j) (behind t))) y ∙ before-refused (w .done) 20 (suc k)))
+            let y : stageOf (suc k) (judge table m) ≡ refused c (suc k) = ap (stageOf (suc k)) (sym (x .judged)) ∙ e in
+            ap (refused c) (add-one k)
+            ∙ sym (ap marks-of (q ∙ ap (λ a. before (w .done) (andThen a (behind t))) y ∙ before-refused (w .done) c (suc k)))
 
     -- The one at the place is carried: one set more is found, and marked.
     pub following-more : {r : Turn} {labels : List Bool} → k < length ms → Turns table numbers at r labels → r .judging ≡ Carried → length labels ≡ length table

@@ -105,6 +105,9 @@ fn polygons(
             Judging::NotCarried => {
                 return Owning::Refused(20, k + 1);
             }
+            Judging::NoGround => {
+                return Owning::Refused(21, k + 1);
+            }
             Judging::Carried => {}
         }
         owners_marks::mark(labels, k, sets);

@@ -18,12 +18,13 @@ use Rattle.owners_marks.specs.Sets.{ownersOf}
 use Rattle.repair.specs.Repair.{largest}
 use Rattle.repair_sides.specs.Numbered.{boundaryNumbers}
 use Rattle.repair_answers.specs.Held.{ownersOutcome, sidesHeld, sidesOutcome}
-use Rattle.judged.specs.Judged.{Judged, repairOf}
+use Rattle.judged.specs.Judged.{Judged, judgedSheet, repairOf}
 use Rattle.judged.specs.Held.{JudgedHeld}
 use Rattle.judged.proofs.Repaired.{rules, after-many}
 use Rattle.judged.proofs.Sides.{sides-held, sides-as-many}
 use Rattle.outcomes.specs.declared.Wanted.the-variants.{OwnerSets, Owners, Boundary}
-use Rattle.outcomes.specs.Entries.{onSheet, sidesAfter, ownedSides, goesOn}
+use Rattle.listing.specs.Listing.{listing}
+use Rattle.outcomes.specs.Entries.{onSheet, sidesAfter, ownedSides, goesOn, sheetListing}
 
 -- Two ways to go on that are the same for each value of a stage.
 on-same : {A : Type 0} (f g : A → Outcome) (r : Answer A) → ((a : A) → r ≡ value a → f a ≡ g a) → andThen r f ≡ andThen r g
@@ -60,3 +61,7 @@ module _ {j : Judged} {numbers opposite sets : List ℕ} (w : JudgedHeld j numbe
         ap₂ (λ o l. sidesOutcome numbers (largest o) o l polygon) (w .crossed) (w .owners-are)
         ∙ on-same (λ owners. sidesHeld numbers (boundaryNumbers (opposites (sidesOf (j .sheet .table))) owners polygon)) (λ owners. sidesAfter (ownedSides (j .sheet) polygon owners)) (repairOf j) sides-same
         ∙ sym (ap (λ b. andThen (needing b 41 0) sides-on) (ap₂ _&&_ (le-leb 1 polygon low) (le-leb polygon (length (j .sheet .polygons)) high)))
+
+-- The listing's bytes, and their number; of a refused sheet too.
+pub listing-on : (s : List ℕ) → sheetListing s ≡ bytes (length (listing (judgedSheet s))) (listing (judgedSheet s))
+listing-on s = refl

@@ -16,7 +16,7 @@ use Rattle.lent.proofs.Stages.{value-refused, same-refusal, chain-value, chain-
 use Rattle.table.specs.Table.{RuleA, RuleB}
 use Rattle.owners_marks.specs.Marks.{ownersFrom}
 use Rattle.owners_marks.proofs.Owners.{owner-is}
-use Rattle.owners.specs.Judging.{Judged, carried, notCarried, code, judge, AreaOfOwnership}
+use Rattle.owners.specs.Judging.{Judged, carried, notCarried, noGround, code, judge, AreaOfOwnership}
 use Rattle.owners.specs.Owners.{stageOf, judgeFrom}
 use Rattle.owners.proofs.Carried.{answered}
 
@@ -27,19 +27,26 @@ EachCarried table [] (s ∷ l) = ⊥
 EachCarried table (m ∷ ms) [] = ⊥
 EachCarried table (m ∷ ms) (s ∷ l) = (judge table m ≡ carried s) × EachCarried table ms l
 
+-- The answer refuses the polygon, with the code.
+abbrev pub Refuses : Judged → ℕ → Type 0
+Refuses j c = (c ≡ code j) × ((s : List Bool) → j ≡ carried s → ⊥)
+
 -- Polygon number k + j is refused with the code, and the j polygons before it, the first being number k, are carried.
 abbrev pub FirstRefused : List Triangle → List Member → ℕ → ℕ → Type 0
 FirstRefused table [] j c = ⊥
-FirstRefused table (m ∷ ms) zero c = (judge table m ≡ notCarried) × (c ≡ code notCarried)
+FirstRefused table (m ∷ ms) zero c = Refuses (judge table m) c
 FirstRefused table (m ∷ ms) (suc j) c = ((s : List Bool) × (judge table m ≡ carried s)) × FirstRefused table ms j c
 
 stage-value : (k : ℕ) (j : Judged) (s : List Bool) → stageOf k j ≡ value s → j ≡ carried s
 stage-value k (carried t) s e = cc e
-stage-value k notCarried s e = absurd (value-refused s (code notCarried) k (sym e))
+stage-value k notCarried s e = absurd (value-refused s 20 k (sym e))
+stage-value k noGround s e = absurd (value-refused s 21 k (sym e))
 
-stage-refused : (k : ℕ) (j : Judged) (c i : ℕ) → stageOf k j ≡ refused c i → (j ≡ notCarried) × (c ≡ code notCarried) × (i ≡ k)
-stage-refused k (carried s) c i e = absurd (value-refused s c i e)
-stage-refused k notCarried c i e = let (p, q) = same-refusal {A = List Bool} (code notCarried) k c i .0 e in (refl, p, q)
+-- The stage is refused exactly if the answer refuses, with the polygon's number.
+stage-refused : (k : ℕ) (j : Judged) (c i : ℕ) → (stageOf k j ≡ refused c i) ↔ (Refuses j c × (i ≡ k))
+stage-refused k (carried s) c i = (λ e. absurd (value-refused s c i e), λ (r, e). absurd (r .1 s refl))
+stage-refused k notCarried c i = (λ e. let (p, q) = same-refusal {A = List Bool} 20 k c i .0 e in ((p, λ s f. absurd (let z : _≡_ {A = ℕ} 0 1 = cc f in omega arith)), q), λ (r, e). same-refusal {A = List Bool} 20 k c i .1 (r .0, e))
+stage-refused k noGround c i = (λ e. let (p, q) = same-refusal {A = List Bool} 21 k c i .0 e in ((p, λ s f. absurd (let z : _≡_ {A = ℕ} 0 1 = cc f in omega arith)), q), λ (r, e). same-refusal {A = List Bool} 21 k c i .1 (r .0, e))
 
 module _ (table : List Triangle) where
   -- What comes behind polygon k with the set s.
@@ -68,7 +75,7 @@ module _ (table : List Triangle) where
   refused-from : (k : ℕ) (ms : List Member) (c i : ℕ) → judgeFrom table k ms ≡ refused c i → (j : ℕ) × (i ≡ k + j) × FirstRefused table ms j c
   refused-from k [] c i e = absurd (value-refused [] c i e)
   refused-from k (m ∷ ms) c i e = elim (chain-refused (stageOf k (judge table m)) (behind k ms) c i .0 e) [
-    | inl p ↦ let (a, b, d) = stage-refused k (judge table m) c i p in (0, omega arith, (a, b))
+    | inl p ↦ let (r, e) = stage-refused k (judge table m) c i .0 p in (0, omega arith, r)
     | inr (s, p, q) ↦ elim (chain-refused (judgeFrom table (suc k) ms) (λ sets. value (s ∷ sets)) c i .0 q) [
       | inl r ↦ let (j, h, f) = refused-from (suc k) ms c i r in (suc j, omega arith, ((s, stage-value k (judge table m) s p), f))
       | inr (sets, r, z) ↦ absurd (value-refused (s ∷ sets) c i z)
@@ -77,7 +84,7 @@ module _ (table : List Triangle) where
 
   from-refused : (k : ℕ) (ms : List Member) (j c : ℕ) → FirstRefused table ms j c → judgeFrom table k ms ≡ refused c (k + j)
   from-refused k [] j c h = absurd h
-  from-refused k (m ∷ ms) zero c (p, q) = ap (λ j. andThen (stageOf k j) (behind k ms)) p ∙ same-refusal {A = List (List Bool)} (code notCarried) k c (k + 0) .1 (q, omega arith)
+  from-refused k (m ∷ ms) zero c h = chain-refused (stageOf k (judge table m)) (behind k ms) c (k + 0) .1 (inl (stage-refused k (judge table m) c (k + 0) .1 (h, omega arith)))
   from-refused k (m ∷ ms) (suc j) c ((s, p), h) =
       ap (λ j. andThen (stageOf k j) (behind k ms)) p
       ∙ ap (λ r. andThen r (λ sets. value (s ∷ sets))) (from-refused (suc k) ms j c h)

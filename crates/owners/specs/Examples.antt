@@ -1,4 +1,4 @@
--- Document 01's starred examples on the strip table, as one table of inputs and answers.
+-- Document 01's starred examples on the strip table, as one table of inputs and answers. (Example 7 has no ground.)
 use mathlib.Core.List.{List, [], _∷_, _++_}
 use Prim.Native.Nat.{ℕ}
 use lib.IntN.{ℤ, pos}
@@ -78,7 +78,7 @@ answers =
     ∷ refused 20 1
     ∷ refused 20 1
     ∷ value (carriedBy 2 (pos 16))
-    ∷ value (carriedBy 0 (pos 0))
+    ∷ refused 21 1
     ∷ refused 20 1
     ∷ refused 12 0
     ∷ refused 11 9

@@ -7,12 +7,13 @@ use Rattle.plane.specs.Points.{Triangle}
 use Rattle.plane.specs.Members.{Member}
 use Rattle.lent.specs.Stages.{Answer, value, refused, andThen}
 use Rattle.owners_marks.specs.Marks.{ownersFrom}
-use Rattle.owners.specs.Judging.{Judged, carried, notCarried, code, judge}
+use Rattle.owners.specs.Judging.{Judged, carried, notCarried, noGround, code, judge}
 
 -- The judging of polygon k as a stage: the set that carries it, or its refusal with the polygon's number.
 abbrev pub stageOf : ℕ → Judged → Answer (List Bool)
 stageOf k (carried s) = value s
 stageOf k notCarried = refused (code notCarried) k
+stageOf k noGround = refused (code noGround) k
 
 -- Each polygon is judged by itself, the first one being number k: the set of each, or the refusal of the first that is refused.
 abbrev pub judgeFrom : List Triangle → ℕ → List Member → Answer (List (List Bool))

@@ -1,25 +1,28 @@
 -- What the code that judges one polygon finds is what the judging answers. The idea: a set carries the polygon exactly if it has the boundary of the pieces, which
 -- the counts tell; forced labels are every carrier's labels. Assumes nothing.
-use mathlib.Core.Path.{_≡_, refl, sym, ap, subst}
+use mathlib.Core.Path.{_≡_, refl, sym, _∙_, ap, subst}
 use mathlib.Core.Logic.{_↔_}
-use mathlib.Core.Bool.{Bool}
+use mathlib.Core.Bool.{Bool, true, false}
 use mathlib.Core.List.{List}
 use Prim.Native.Nat.{ℕ}
 use native.Mathlib.Omega.{arith}
+use Rattle.whole.specs.Sums.{any}
 use Rattle.plane.specs.Points.{Triangle}
 use Rattle.plane.specs.Boundaries.{SameBoundary, sidesOf}
 use Rattle.plane.specs.Members.{Member, memberEdges}
 use Rattle.plane.specs.Keys.{pairs}
 use Rattle.table.specs.Table.{RuleA, RuleB}
 use Rattle.table.specs.Sets.{SetOf, chosen}
+use Rattle.table.proofs.Sets.{zero-empty}
 use Rattle.table.specs.Sides.{trianglesOf, Shares}
 use Rattle.table_count.specs.Counting.{piecesOf, Tallied, Settled, Stray}
 use Rattle.owners_judge.specs.declared.Judging.{Judging}
-use Rattle.owners_judge.specs.declared.Judging.the-variants.{Carried as Yes, NotCarried as No}
-use Rattle.owners.specs.Judging.{Carries, carried, notCarried, code, judge, AreaOfOwnership}
+use Rattle.owners_judge.specs.declared.Judging.the-variants.{Carried as Yes, NotCarried as No, NoGround as Bare}
+use Rattle.owners.specs.Judging.{Carries, Groundless, carried, notCarried, noGround, code, judge, AreaOfOwnership}
 use Rattle.owners_judge.specs.Preparing.{Prepared}
 use Rattle.owners_judge.specs.Judged.{judgedOf}
-use Rattle.owners.proofs.Carried.{answered, answers, not-carried}
+use Rattle.owners.proofs.Carried.{answered, answers, not-carried, no-ground, empty-groundless}
+use Rattle.owners_judge.proofs.Labels.{none-chosen, some-not}
 use Rattle.table_labels.proofs.Compared.{pieces-are, stray-refuses, shares-from, shares-to}
 
 module _ (keys ordered index opposite order : List ℕ) (prepared : Prepared keys ordered index opposite order) (from to : List ℕ) (m : Member) (is : pairs from to ≡ memberEdges m) where
@@ -43,25 +46,56 @@ module _ (keys ordered index opposite order : List ℕ) (prepared : Prepared key
     pub judge-other : (labels : List Bool) → ((s : List Bool) → SetOf table s → Shares opposite counts s → s ≡ labels) → (Shares opposite counts labels → ⊥) → judge table m ≡ notCarried
     judge-other labels h n = judge-unforced (λ s l c. n (subst (Shares opposite counts) (h s l c) c))
 
-    pub judge-carried : (labels : List Bool) → SetOf table labels → Settled (sidesOf table) (piecesOf ordered from to) (piecesOf ordered from to) → Shares opposite counts labels → judge table m ≡ carried labels
-    judge-carried labels l settled h =
-        answers table m (prepared .areas) (prepared .indexed .once) labels l
-        (subst (λ T. T) (sym (carrying labels)) (shares-to keys ordered index opposite (prepared .indexed) (piecesOf ordered from to) labels l counts tallied settled h))
+    module _ (labels : List Bool) (l : SetOf table labels) (settled : Settled (sidesOf table) (piecesOf ordered from to) (piecesOf ordered from to)) (h : Shares opposite counts labels) where
+      carries : Carries table labels m
+      carries = subst (λ T. T) (sym (carrying labels)) (shares-to keys ordered index opposite (prepared .indexed) (piecesOf ordered from to) labels l counts tallied settled h)
+
+      -- Labels of which none is set are those of a member without ground; a member with a label has ground, since a boundary that is zero is that of no triangles.
+      pub judge-empty : any (λ b. b) labels ≡ false → judge table m ≡ noGround
+      judge-empty e = no-ground table m (prepared .areas) (prepared .indexed .once) .1 (empty-groundless table m labels (none-chosen table labels e) carries)
+
+      pub judge-carried : any (λ b. b) labels ≡ true → judge table m ≡ carried labels
+      judge-carried e = answers table m (prepared .areas) (prepared .indexed .once) labels l carries (λ g. some-not labels e (zero-empty table (prepared .areas) (prepared .indexed .once) labels l (λ d. carries d ∙ g d)))
 
 -- ---- demand 3 for the code
--- What the judging of one polygon says of its answer: 20 exactly if no set of triangles has the member's boundary; a carried member's labels are
+-- What the judging of one polygon says of its answer: 20 exactly if no set of triangles has the member's boundary, 21 exactly if that is zero everywhere; a carried member's labels are
 -- the only set that has it, and their triangles' double areas add up to the member's.
 pub judging-says : (table : List Triangle) (m : Member) → RuleA table → RuleB table → (r : Judging) (labels : List Bool) → judgedOf r labels ≡ judge table m
-    → ((code (judgedOf r labels) ≡ 20) ↔ ((s : List Bool) → SetOf table s → Carries table s m → ⊥)) × (r ≡ Yes → AreaOfOwnership table m labels)
-judging-says table m area once Yes labels e = (
-  (λ q. absurd (omega arith), λ h. absurd (let o = answered table m area once labels (sym e) in h labels (o .of-table) (o .carries))),
-  λ q. answered table m area once labels (sym e),
+    → ((code (judgedOf r labels) ≡ 20) ↔ ((s : List Bool) → SetOf table s → Carries table s m → ⊥)) × ((code (judgedOf r labels) ≡ 21) ↔ Groundless table m) × (r ≡ Yes → AreaOfOwnership table m labels)
+judging-says table m area once r labels e = (
+  (λ q. not-carried table m area once .0 (sym e ∙ by-20 r q), λ h. ap code (e ∙ not-carried table m area once .1 h)),
+  (λ q. no-ground table m area once .0 (sym e ∙ by-21 r q), λ h. ap code (e ∙ no-ground table m area once .1 h)),
+  λ q. answered table m area once labels (sym e ∙ ap (λ r. judgedOf r labels) q),
 )
-judging-says table m area once No labels e = ((λ q. not-carried table m area once .0 (sym e), λ h. refl), λ q. absurd (let z : _≡_ {A = ℕ} 0 1 = cc q in omega arith))
+  where
+    by-20 : (r : Judging) → code (judgedOf r labels) ≡ 20 → judgedOf r labels ≡ notCarried
+    by-20 Yes q = absurd (omega arith)
+    by-20 No q = refl
+    by-20 Bare q = absurd (omega arith)
+
+    by-21 : (r : Judging) → code (judgedOf r labels) ≡ 21 → judgedOf r labels ≡ noGround
+    by-21 Yes q = absurd (omega arith)
+    by-21 No q = absurd (omega arith)
+    by-21 Bare q = refl
 
 -- Two outcomes that the contract of `judge` allows are equal: the answer, and where the polygon is carried every label.
 pub one-outcome : (r r′ : Judging) (a b : List Bool) → judgedOf r a ≡ judgedOf r′ b → (r ≡ r′) × (r ≡ Yes → a ≡ b)
-one-outcome Yes Yes a b e = (refl, λ q. cc)
-one-outcome Yes No a b e = absurd (let z : _≡_ {A = ℕ} 0 1 = cc in omega arith)
-one-outcome No Yes a b e = absurd (let z : _≡_ {A = ℕ} 0 1 = cc in omega arith)
-one-outcome No No a b e = (refl, λ q. absurd (let z : _≡_ {A = ℕ} 0 1 = cc q in omega arith))
+one-outcome r r′ a b e = (same r r′ (ap code e), λ q. labels r r′ q e)
+  where
+    same : (r r′ : Judging) → code (judgedOf r a) ≡ code (judgedOf r′ b) → r ≡ r′
+    same Yes Yes q = refl
+    same No No q = refl
+    same Bare Bare q = refl
+    same Yes No q = absurd (omega arith)
+    same Yes Bare q = absurd (omega arith)
+    same No Yes q = absurd (omega arith)
+    same No Bare q = absurd (omega arith)
+    same Bare Yes q = absurd (omega arith)
+    same Bare No q = absurd (omega arith)
+
+    labels : (r r′ : Judging) → r ≡ Yes → judgedOf r a ≡ judgedOf r′ b → a ≡ b
+    labels Yes Yes q e = cc e
+    labels Yes No q e = absurd (omega (arith, ap code e))
+    labels Yes Bare q e = absurd (omega (arith, ap code e))
+    labels No r′ q e = absurd (let z : _≡_ {A = ℕ} 0 1 = cc q in omega arith)
+    labels Bare r′ q e = absurd (let z : _≡_ {A = ℕ} 0 1 = cc q in omega arith)

@@ -3,6 +3,7 @@ ghost use mathlib.Core.Path.{_≡_};
 ghost use mathlib.Core.List.{List};
 ghost use Prim.Native.Nat.{ℕ};
 ghost use lib.ListN.{length};
+ghost use Rattle.whole.specs.Sums.{any};
 ghost use Rattle.plane.specs.Members.{Member, memberEdges};
 ghost use Rattle.plane.specs.Keys.{pairs};
 ghost use Rattle.table.specs.Sides.{trianglesOf};
@@ -11,10 +12,25 @@ ghost use Rattle.owners.specs.Judging.{judge};
 ghost use Rattle.owners_judge.specs.Preparing.{Prepared};
 ghost use Rattle.owners_judge.specs.Judged.{judgedOf};
 
-// What the judging of a polygon answers: carried, by the labelled set; or not carried.
+// What the judging of a polygon answers: carried, by the labelled set; not carried; or no ground.
 pub enum Judging {
     Carried,
     NotCarried,
+    NoGround,
+}
+
+// Some triangle is labelled.
+fn is_some(labels: &[bool]) -> bool
+    ensures { λ r. ⌜ r ≡ any (λ b. b) (now (labels .entry)) ⌝ }
+{
+    let mut t: usize = 0;
+    while t < labels.len() {
+        if labels[t] {
+            return true;
+        }
+        t += 1;
+    }
+    false
 }
 
 // Judges the polygon with these edges, from the corners of one list to those of the other. The labels of a carried one are its set.
@@ -40,6 +56,9 @@ pub fn judge(
     }
     if !table_labels::agree(opposite, counts, labels) {
         return Judging::NotCarried;
+    }
+    if !is_some(labels) {
+        return Judging::NoGround;
     }
     Judging::Carried
 }

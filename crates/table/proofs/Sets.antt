@@ -30,6 +30,14 @@ positive (t ∷ l) h = add (double t) (sum double l) (h .0) (positive l (h .1))
     add : (z w : ℤ) → pos 0 <ℤ z → pos 0 ≤ℤ w → pos 0 ≤ℤ (z +ℤ w)
     add z w h k = rw (parts z, parts w) (simp zify (omega (arith, ints)))
 
+-- Some triangles of double area above 0 have one together.
+pub sum-above : (l : List Triangle) → RuleA l → (l ≡ [] → ⊥) → pos 0 <ℤ sum double l
+sum-above [] h n = absurd (n refl)
+sum-above (t ∷ l) h n = add (double t) (sum double l) (h .0) (positive l (h .1))
+  where
+    add : (z w : ℤ) → pos 0 <ℤ z → pos 0 ≤ℤ w → pos 0 <ℤ (z +ℤ w)
+    add z w h k = rw (parts z, parts w) (simp zify (omega (arith, ints)))
+
 -- Triangles of double area above 0 whose boundary is zero everywhere are none.
 pub closed-empty : (l : List Triangle) → RuleA l → NoBoundary (sidesOf l) → l ≡ []
 unfolding net

@@ -1,4 +1,5 @@
-//! Cases made by hand: inputs that each try one thing, by a name that says which, with what document 01 says of them.
+//! Cases made by hand: inputs that each try one thing, by a name that says which, with what document 01 says of them,
+//! with the requests that landed.
 //!
 //! What is said of a case stands beside it as a number of document 01's, found by reading and not by this program, which is
 //! compared with it in the tests below; the library is compared with this program on every case (`differ`).
@@ -16,6 +17,7 @@ mod reading;
 mod repair;
 mod rules;
 mod spikes;
+mod without_ground;
 
 pub use case::{Case, Outcome};
 
@@ -32,6 +34,7 @@ pub fn all() -> Vec<Case> {
         rules::cases,
         carried::cases,
         spikes::cases,
+        without_ground::cases,
         repair::cases,
         large::cases,
         numbers::cases,
@@ -61,7 +64,8 @@ mod tests {
     use crate::Refusal;
     use std::collections::BTreeSet;
 
-    const SHEET_ENTRIES: [Entry; 4] = [Entry::Numbers, Entry::OwnerSets, Entry::Owners, Entry::Boundary(1)];
+    const SHEET_ENTRIES: [Entry; 5] =
+        [Entry::Numbers, Entry::OwnerSets, Entry::Owners, Entry::Boundary(1), Entry::Boundary(u32::MAX)];
 
     /// The packed answer of an entry with all the room it wants, and what it writes.
     fn answered(entry: Entry, input: &[u8]) -> (u64, Option<Vec<u8>>) {

@@ -1,4 +1,5 @@
-//! Document 01's definitions, word by word and slow, to compare the program's ways with on small sheets.
+//! The definitions of document 01 and of the requests that landed, word by word and slow, to compare the program's ways with on
+//! small sheets.
 
 use crate::cases::{self, Case};
 use crate::generate::generate;
@@ -76,21 +77,32 @@ fn table_refusal(triangles: &[Triangle]) -> Option<Refusal> {
     (all != round).then_some(Refusal::new(12, 0))
 }
 
-/// The sets that have the member's boundary.
-fn carrying_sets(triangles: &[Triangle], boundaries: &[Given], member: &Member) -> Vec<usize> {
+/// The judging of one member: 20 if no set has its boundary, 21 if it gives 0 to every ordered pair, else the one set that has it.
+fn judging(triangles: &[Triangle], boundaries: &[Given], member: &Member) -> Result<usize, u8> {
     let wanted = boundary_of_rings(triangles, member.iter().flatten());
-    (0..boundaries.len()).filter(|set| boundaries[*set] == wanted).collect()
+    match (0..boundaries.len()).filter(|set| boundaries[*set] == wanted).collect::<Vec<usize>>()[..] {
+        [] => Err(20),
+        [_] if wanted.is_empty() => Err(21),
+        [set] => Ok(set),
+        _ => panic!("two sets have one boundary"),
+    }
 }
 
-fn compare_judgings(name: &str, table: &Table, polygons: &[Member]) {
+/// Every member is judged alike; the first that is refused is the sheet's refusal. How many are refused by 20 and by 21, and how
+/// many are carried.
+fn compare_judgings(name: &str, table: &Table, polygons: &[Member], refusal: Option<Refusal>) -> [usize; 3] {
     let triangles = &table.triangles;
     let boundaries: Vec<Given> = (0..1 << triangles.len()).map(|set| boundary_of_set(triangles, set)).collect();
     let inside = PointsInside::of(triangles);
-    for member in polygons {
-        let judged = judge(table, &inside, member);
-        let judged: Vec<usize> = judged.map(|set| bits(set.into_iter())).into_iter().collect();
-        assert_eq!(judged, carrying_sets(triangles, &boundaries, member), "{name}");
+    let (mut first, mut counts) = (None, [0; 3]);
+    for (place, member) in polygons.iter().enumerate() {
+        let judged = judging(triangles, &boundaries, member);
+        assert_eq!(judge(table, &inside, member).map(|set| bits(set.into_iter())), judged, "{name}");
+        first = first.or(judged.err().map(|code| Refusal::new(code, place as u64 + 1)));
+        counts[judged.map_or_else(|code| usize::from(code - 20), |_| 2)] += 1;
     }
+    assert_eq!(refusal, first, "{name}");
+    counts
 }
 
 /// The places where it is true as bits.
@@ -148,13 +160,15 @@ fn compare_repairs(name: &str, judged: &Judged) {
     }
 }
 
-/// The polygons' double areas, from their corners, add up to those of the triangles by their number of owners; and the
-/// triangles' to the frame's.
+/// Every polygon has a double area above 0. Their double areas, from their corners, add up to those of the triangles by their
+/// number of owners; and the triangles' to the frame's.
 fn compare_areas(name: &str, judged: &Judged) {
     let triangles = &judged.table.triangles;
     let areas = || triangles.iter().map(double_area);
     let owned: i64 = areas().zip(&judged.owners).map(|(area, set)| area * i64::from(set.count_ones())).sum();
-    assert_eq!(judged.sheet.polygons.iter().map(member_double_area).sum::<i64>(), owned, "{name}");
+    let polygons: Vec<i64> = judged.sheet.polygons.iter().map(member_double_area).collect();
+    assert!(polygons.iter().all(|area| *area > 0), "{name}");
+    assert_eq!(polygons.into_iter().sum::<i64>(), owned, "{name}");
     let [low, _, high, _] = frame(&triangles.concat());
     assert_eq!(areas().sum::<i64>(), 2 * (high.x - low.x) * (high.y - low.y), "{name}");
 }
@@ -168,7 +182,7 @@ fn inputs() -> impl Iterator<Item = (String, Vec<u8>)> {
 
 #[test]
 fn rules_and_judging_agree_on_small_sheets() {
-    let (mut tables, mut sheets) = (0, 0);
+    let (mut tables, mut sheets, mut judgings) = (0, 0, [0; 3]);
     for (name, input) in inputs() {
         let Ok(sheet) = reading::read(&input) else { continue };
         if sheet.triangles.len() > 40 {
@@ -178,11 +192,13 @@ fn rules_and_judging_agree_on_small_sheets() {
         assert_eq!(table.as_ref().err().copied(), table_refusal(&sheet.triangles), "{name}");
         tables += 1;
         if let (Ok(table), true) = (table, sheet.triangles.len() <= 9) {
-            compare_judgings(&name, &table, &sheet.polygons);
+            let counts = compare_judgings(&name, &table, &sheet.polygons, judge_sheet(&input).err());
+            counts.iter().zip(&mut judgings).for_each(|(count, all)| *all += count);
             sheets += 1;
         }
     }
     assert!(tables > 3_000 && sheets > 1_000, "{tables} tables, {sheets} sheets");
+    assert!(judgings.iter().all(|count| *count > 500), "{judgings:?} polygons not carried, without ground, carried");
 }
 
 #[test]
@@ -191,6 +207,7 @@ fn repair_and_areas_agree_on_small_sheets() {
     for (name, input) in inputs() {
         let Ok(judged) = judge_sheet(&input) else { continue };
         compare_areas(&name, &judged);
+        assert_eq!(repair(&judged.table, &judged.owners).is_err(), judged.sheet.polygons.is_empty(), "{name}");
         if judged.owners.len() <= 40 {
             compare_repairs(&name, &judged);
             sheets += 1;

@@ -102,7 +102,7 @@ fn owners(judged: &Judged) -> Result<Success, Refusal> {
     Ok(counted(repair(&judged.table, &judged.owners)?))
 }
 
-/// After 20 come 41 and 30.
+/// After 20 and 21 come 41 and 30.
 fn boundary(judged: &Judged, asked: u32) -> Result<Success, Refusal> {
     if asked == 0 || asked as usize > judged.sheet.polygons.len() {
         return Err(Refusal::new(41, 0));

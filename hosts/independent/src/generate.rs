@@ -13,14 +13,15 @@ mod spoil;
 
 use dice::Dice;
 use draft::Draft;
-use sheets::{not_carried_sheet, sound_sheet};
+use sheets::{not_carried_sheet, sound_sheet, without_ground_sheet};
 
 /// The input for this seed: bytes that are, or nearly are, a sheet in WKB.
 pub fn generate(seed: u64) -> Vec<u8> {
     let mut dice = Dice::new(seed);
     match dice.below(100) {
-        0..=54 => sound(&mut dice),
-        55..=67 => not_carried(&mut dice),
+        0..=51 => sound(&mut dice),
+        52..=61 => not_carried(&mut dice),
+        62..=67 => without_ground(&mut dice),
         68..=76 => broken_table(&mut dice),
         77..=93 => damaged(&mut dice),
         94..=98 => at_a_limit(&mut dice),
@@ -68,6 +69,12 @@ fn not_carried(dice: &mut Dice) -> Vec<u8> {
     Draft::of(dice, sheet).bytes(dice)
 }
 
+/// A sheet of which, mostly, a member has no ground.
+fn without_ground(dice: &mut Dice) -> Vec<u8> {
+    let sheet = without_ground_sheet(dice);
+    Draft::of(dice, sheet).bytes(dice)
+}
+
 /// A sheet with a table that breaks a rule.
 fn broken_table(dice: &mut Dice) -> Vec<u8> {
     let mut sheet = sound_sheet(dice);
@@ -105,13 +112,33 @@ fn at_a_limit(dice: &mut Dice) -> Vec<u8> {
 mod tests {
     use super::*;
     use crate::entries::{answer, whole, Entry};
+    use crate::ownership::{judge, PointsInside};
+    use crate::table::Table;
 
     #[test]
-    fn sound_sheets_are_carried() {
+    fn sound_sheets_are_carried_and_have_ground() {
         for seed in 0..3_000 {
             let input = sound(&mut Dice::new(seed));
             let (packed, _) = answer(Entry::OwnerSets, &input, usize::MAX);
             assert_eq!(packed % 256, 0, "seed {seed}: item {}", packed / 256);
+        }
+    }
+
+    /// For each polygon of the sheet, in order, the code by which it is refused, 0 for none.
+    fn judgings(input: &[u8]) -> Vec<u8> {
+        let sheet = crate::reading::read(input).unwrap_or_default();
+        let Ok(table) = Table::check(&sheet.triangles) else { return Vec::new() };
+        let inside = PointsInside::of(&table.triangles);
+        sheet.polygons.iter().map(|member| judge(&table, &inside, member).err().unwrap_or(0)).collect()
+    }
+
+    #[test]
+    fn polygons_without_ground_stand_before_and_after_all_others() {
+        let sheets: Vec<Vec<u8>> = (0..600).map(|seed| judgings(&without_ground(&mut Dice::new(seed)))).collect();
+        let times = |wanted: &dyn Fn(&[u8]) -> bool| sheets.iter().filter(|codes| wanted(codes)).count();
+        assert!(times(&|codes| codes == [21]) > 20, "alone");
+        for pair in [[0, 21], [21, 0], [20, 21], [21, 20], [21, 21]] {
+            assert!(times(&|codes| codes.windows(2).any(|two| two == pair)) > 20, "{pair:?}");
         }
     }
 
@@ -147,15 +174,17 @@ mod tests {
 
     #[test]
     fn every_code_occurs() {
-        let mut codes = std::collections::BTreeSet::new();
+        let (mut codes, mut without_ground) = (std::collections::BTreeSet::new(), 0);
         for seed in 0..6_000 {
             let input = generate(seed);
+            without_ground += usize::from(answer(Entry::OwnerSets, &input, 0).0 % 256 == 21);
             for entry in [Entry::Owners, Entry::Boundary(seed as u32 % 5)] {
                 codes.insert(answer(entry, &input, 20).0 % 256);
             }
             codes.insert(answer(Entry::Write, &generate_numbers(seed), 1_000).0 % 256);
         }
-        let all = [0, 1, 2, 3, 4, 5, 6, 7, 8, 10, 11, 12, 20, 30, 40, 41, 42];
+        let all = [0, 1, 2, 3, 4, 5, 6, 7, 8, 10, 11, 12, 20, 21, 30, 40, 41, 42];
         assert_eq!(codes.into_iter().collect::<Vec<u64>>(), all);
+        assert!(without_ground > 240, "{without_ground} sheets refused by 21");
     }
 }

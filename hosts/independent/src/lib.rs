@@ -1,5 +1,6 @@
-//! Sheets, triangles and owners: an independent program, written from document 01 and the choices of
-//! open-points.md alone, to compare the library's answers with. Nothing here was taken from the library.
+//! Sheets, triangles and owners: an independent program, written from document 01, the requests of document 02 that
+//! docs/document-01.md names, and the choices of open-points.md and open-points-02.md alone, to compare the library's
+//! answers with. Nothing here was taken from the library.
 //!
 //! All arithmetic is in whole numbers and exact. Coordinates are at most 10^7 in size, so that a double area and a
 //! ring edge's share of one are below 10^15, and the sum of 4,096 such is below 5·10^18: i64 holds them all.

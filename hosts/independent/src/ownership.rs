@@ -12,7 +12,7 @@ use crate::plane::Boundary;
 use crate::table::Table;
 use crate::{reading, Member, Point, Refusal, Sheet, Side, Triangle};
 
-/// A sheet that was read, whose table keeps its rules and whose members are all carried.
+/// A sheet that was read, whose table keeps its rules, and whose members are all carried and have ground.
 pub struct Judged {
     /// The sheet in numbers.
     pub sheet: Sheet,
@@ -22,14 +22,15 @@ pub struct Judged {
     pub owners: Vec<u64>,
 }
 
-/// Reads a sheet, checks its table, and judges its polygons in number order: refusals 1 to 8, 10, 11, 12, 20.
+/// Reads a sheet, checks its table, and judges its polygons in number order: refusals 1 to 8, 10, 11, 12, and 20 or 21 with
+/// the number of the first polygon that is refused.
 pub fn judge_sheet(bytes: &[u8]) -> Result<Judged, Refusal> {
     let sheet = reading::read(bytes)?;
     let table = Table::check(&sheet.triangles)?;
     let inside = PointsInside::of(&table.triangles);
     let mut owners = vec![0; table.triangles.len()];
     for (place, member) in sheet.polygons.iter().enumerate() {
-        let set = judge(&table, &inside, member).ok_or(Refusal::new(20, place as u64 + 1))?;
+        let set = judge(&table, &inside, member).map_err(|code| Refusal::new(code, place as u64 + 1))?;
         for (owner, _) in owners.iter_mut().zip(set).filter(|(_, owned)| *owned) {
             *owner |= 1 << place;
         }
@@ -37,17 +38,28 @@ pub fn judge_sheet(bytes: &[u8]) -> Result<Judged, Refusal> {
     Ok(Judged { sheet, table, owners })
 }
 
-/// The judging of one polygon: the set of triangles with the same boundary at every ordered pair, if there is one.
-pub fn judge(table: &Table, inside: &PointsInside, member: &Member) -> Option<Vec<bool>> {
-    let mut set = Vec::with_capacity(table.triangles.len());
-    for number in inside.winding_numbers(member) {
-        set.push(match number {
-            0 => false,
-            1 => true,
-            _ => return None,
-        });
+/// The judging of one polygon: the set of triangles with the same boundary at every ordered pair; 20 if there is none, 21 if
+/// that boundary is zero everywhere.
+pub fn judge(table: &Table, inside: &PointsInside, member: &Member) -> Result<Vec<bool>, u8> {
+    let mut boundary = Boundary::default();
+    for edge in edges(member) {
+        boundary.add_edge(&table.corners, edge);
     }
-    has_boundary(table, &set, member).then_some(set)
+    let set = wound_round(inside, member).filter(|set| is_boundary_of(table, set, boundary.clone())).ok_or(20)?;
+    if boundary.is_zero() {
+        return Err(21);
+    }
+    Ok(set)
+}
+
+/// The one set of triangles that comes into question, if there is one.
+fn wound_round(inside: &PointsInside, member: &Member) -> Option<Vec<bool>> {
+    let once = |number| match number {
+        0 => Some(false),
+        1 => Some(true),
+        _ => None,
+    };
+    inside.winding_numbers(member).into_iter().map(once).collect()
 }
 
 /// The edges of all rings of all polygons of a member.
@@ -61,12 +73,8 @@ pub fn member_double_area(member: &Member) -> i64 {
     edges(member).map(|(p, q)| p.x * q.y - q.x * p.y).sum()
 }
 
-/// Whether this set of triangles has the member's boundary at every ordered pair.
-fn has_boundary(table: &Table, set: &[bool], member: &Member) -> bool {
-    let mut difference = Boundary::default();
-    for edge in edges(member) {
-        difference.add_edge(&table.corners, edge);
-    }
+/// Whether this set of triangles has this boundary at every ordered pair.
+fn is_boundary_of(table: &Table, set: &[bool], mut difference: Boundary) -> bool {
     for (triangle, _) in table.triangles.iter().zip(set).filter(|(_, owned)| **owned) {
         difference.subtract_triangle(triangle);
     }

@@ -36,7 +36,7 @@ pub fn cut(corners: &[Point], (p, q): Side, mut piece: impl FnMut(Side)) {
 }
 
 /// A boundary: it gives each ordered pair (u, v) the number of times uv is listed, less those of vu.
-#[derive(Default)]
+#[derive(Clone, Default)]
 pub struct Boundary {
     listed: Vec<Side>,
 }

@@ -28,6 +28,7 @@ fn the_strip_sheet_has_gaps_and_overlaps_and_is_repaired() {
 fn verdicts_are_those_of_the_listings() {
     assert_eq!(verdict(&example("clean.wkb")), Verdict::Clean);
     assert_eq!(verdict(&example("not-carried.wkb")), Verdict::Refused(Refusal { code: 20, item: 2 }));
+    assert_eq!(verdict(&example("no-ground.wkb")), Verdict::Refused(Refusal { code: 21, item: 2 }));
     assert_eq!(verdict(&[]), Verdict::Refused(Refusal { code: 1, item: 0 }));
 }
 
@@ -37,11 +38,18 @@ fn each_refusal_says_what_it_is_about() {
     assert_eq!(owners(&sheet), Err(Refusal { code: 30, item: 0 }));
     assert_eq!(boundary(&sheet, 1), Err(Refusal { code: 41, item: 0 }));
     assert_eq!(write(&[2]), Err(Refusal { code: 42, item: 0 }));
+    let refused = Refusal { code: 21, item: 2 };
+    let sheet_without_ground = example("no-ground.wkb");
+    assert_eq!(owner_sets(&sheet_without_ground), Err(refused));
+    assert_eq!(owners(&sheet_without_ground), Err(refused));
+    assert_eq!(boundary(&sheet_without_ground, 3), Err(refused));
+    assert_eq!(listing(&sheet_without_ground), "refused 21 2\n");
+    assert_eq!(refused.to_string(), "polygon 2 has no ground: its lines run there and back and cancel out (code 21, item 2)");
     assert_eq!(
         numbers(&sheet[..600]).unwrap_err().to_string(),
         "the bytes end too early for the next field of member 1, the triangle table (code 1, item 1)"
     );
-    let codes = [1, 2, 3, 4, 5, 6, 7, 8, 10, 11, 12, 20, 30, 40, 41, 42];
+    let codes = [1, 2, 3, 4, 5, 6, 7, 8, 10, 11, 12, 20, 21, 30, 40, 41, 42];
     let sentences: std::collections::BTreeSet<String> = codes.iter().map(|&code| Refusal { code, item: 7 }.sentence()).collect();
     assert_eq!(sentences.len(), codes.len());
     assert!(sentences.iter().all(|sentence| !sentence.contains("has no refusal")));

@@ -1,8 +1,9 @@
 -- `judged_sets::polygons` meets its contract. The invariant: of the first k polygons the sets are found and marked, and the others stand at the place (Following).
 -- Assumes nothing.
 use mathlib.Core.Path.{_≡_, refl, sym, _∙_, ap, subst}
+use mathlib.Core.Bool.{Bool}
 use mathlib.Core.List.{List}
-use Prim.Native.Nat.{ℕ, _-_, _<_}
+use Prim.Native.Nat.{ℕ, suc, _+_, _-_, _<_}
 use native.Mathlib.Omega.{arith}
 use denote.Ref.{now}
 use lib.IntN.{ℤ}
@@ -10,10 +11,12 @@ use lib.ListN.{length, replicate, length-replicate}
 use lib.Seq.{take-all}
 use borrow.Author.Needs.{needs}
 use Rattle.plane.specs.Members.{Member}
-use Rattle.lent.specs.Stages.{value}
+use Rattle.lent.specs.Stages.{value, refused}
 use Rattle.table.specs.Sides.{trianglesOf}
 use Rattle.owners_judge.specs.Preparing.{Prepared}
-use Rattle.judged_sets.specs.Owning.{PolygonsAt}
+use Rattle.owners.specs.Owners.{stageOf}
+use Rattle.owners_judge.specs.Judged.{judgedOf}
+use Rattle.judged_sets.specs.Owning.{PolygonsAt, heldSets}
 use Rattle.judged_sets.proofs.Following.{Following, polygons-count, following-none, following-marks, following-next, following-refused, following-more, following-done}
 use Rattle.judged_sets.proofs.polygons.Statement.{statement}
 use Rattle.judged_sets.proofs.polygons.Tie as tie
@@ -40,7 +43,7 @@ judged c = c .before .before .before .before .before .before
 abbrev marked : tie.After-slice-known6 Inv-loop μ-loop → tie.After-mark-arg2 Inv-loop μ-loop
 marked c = c .before .before .before
 
-abbrev carried : tie.After-mark-arg2 Inv-loop μ-loop → tie.After-enum-told2 Inv-loop μ-loop
+abbrev carried : tie.After-mark-arg2 Inv-loop μ-loop → tie.After-enum-told3 Inv-loop μ-loop
 carried c = c .before .before
 
 abbrev entry : tie.In-loop Inv-loop μ-loop → tie.Start Inv-loop μ-loop
@@ -61,7 +64,10 @@ following c = let p = entry c .pre in c .before .loop .inv .5 (p .0 .0) (p .2 .0
 counts-kept : (c : tie.After-judge-at Inv-loop μ-loop) → length (c .judge-at .last .1 .1 .1 .1 .1 .1 .1 .1 .0) ≡ length (now (entry (turn c) .args .counts))
 counts-kept c = c .judge-at .kept .1 .1 .1 .1 .1 .1 .1 .1 .0 ∙ turn c .before .loop .inv .2
 
-labels-kept : (c : tie.After-judge-at Inv-loop μ-loop) → length (c .judge-at .last .1 .1 .1 .1 .1 .1 .1 .1 .1 .0) ≡ length (now (entry (turn c) .args .labels))
+abbrev labels-left : tie.After-judge-at Inv-loop μ-loop → List Bool
+labels-left c = c .judge-at .last .1 .1 .1 .1 .1 .1 .1 .1 .1 .0
+
+labels-kept : (c : tie.After-judge-at Inv-loop μ-loop) → length (labels-left c) ≡ length (now (entry (turn c) .args .labels))
 labels-kept c = c .judge-at .kept .1 .1 .1 .1 .1 .1 .1 .1 .1 .0 ∙ turn c .before .loop .inv .3
 
 loop-holds : tie.Need-loop-holds Inv-loop μ-loop
@@ -76,11 +82,19 @@ judge-at-requires c κs =
     let i = d .before .loop .inv in
     ((p .0 .0, p .0 .1, i .2 ∙ p .0 .2, i .3 ∙ p .0 .3), p .1, following-next (following d) (more d (p .2 .2)), i .0, i .1)
 
-returns : tie.Need-returns Inv-loop μ-loop
-returns c =
-    let j = judged (c .before .before) in
+-- A polygon that is refused refuses all.
+refuses : (j : tie.After-judge-at Inv-loop μ-loop) (c : ℕ) → let k = turn j .before .loop .k in stageOf (suc k) (judgedOf (j .judge-at .result .judging) (labels-left j)) ≡ refused c (suc k)
+    → let a = entry (turn j) .args in (keys : List ℕ) (ms : List Member) (rest : List ℤ) → Prepared keys (now (a .ordered)) (now (a .index)) (now (a .opposite)) (now (a .order)) → length (now (a .counts)) ≡ length keys
+    → length (now (a .labels)) ≡ length (trianglesOf keys) → PolygonsAt (now (a .numbers)) (a .first) ms rest → refused c (k + 1) ≡ heldSets (trianglesOf keys) ms
+refuses j c e keys ms rest w q n s =
     let l = turn j .before .loop in
-    (tt, λ keys ms rest w q n s. following-refused (l .inv .5 keys ms rest w q n s) (more (turn j) s) (λ m b. j .judge-at .ensures keys m b w (l .inv .2 ∙ q) (l .inv .3 ∙ n)) (c .enum-told .given .1))
+    following-refused (l .inv .5 keys ms rest w q n s) {labels = labels-left j} (more (turn j) s) (λ m b. j .judge-at .ensures keys m b w (l .inv .2 ∙ q) (l .inv .3 ∙ n)) c e
+
+returns : tie.Need-returns Inv-loop μ-loop
+returns c = let j = judged (c .before .before) in (tt, refuses j 20 (ap (λ x. stageOf (suc (turn j .before .loop .k)) (judgedOf x (labels-left j))) (c .enum-told .given .1)))
+
+returns-2 : tie.Need-returns-2 Inv-loop μ-loop
+returns-2 c = let j = judged (c .before .before) in (tt, refuses j 21 (ap (λ x. stageOf (suc (turn j .before .loop .k)) (judgedOf x (labels-left j))) (c .enum-told2 .given .1)))
 
 mark-requires : tie.Need-mark-requires Inv-loop μ-loop
 mark-requires c κs =
@@ -102,11 +116,11 @@ loop-again c =
       m .ensures .1 ∙ l .inv .4,
       λ keys ms rest w q n s.
           subst (Following (trianglesOf keys) _ ms rest _ _) (sym (m .ensures .0))
-          (following-more (l .inv .5 keys ms rest w q n s) (more (turn j) s) (λ m b. j .judge-at .ensures keys m b w (l .inv .2 ∙ q) (l .inv .3 ∙ n)) (d .enum-told2 .given .1) (labels-kept j ∙ n)),
+          (following-more (l .inv .5 keys ms rest w q n s) (more (turn j) s) (λ m b. j .judge-at .ensures keys m b w (l .inv .2 ∙ q) (l .inv .3 ∙ n)) (d .enum-told3 .given .1) (labels-kept j ∙ n)),
     )
 
-returns-2 : tie.Need-returns-2 Inv-loop μ-loop
-returns-2 c =
+returns-3 : tie.Need-returns-3 Inv-loop μ-loop
+returns-3 c =
     let l = c .before .loop in (
       l .inv .4,
       λ keys ms rest w q n s. ap value (take-all (length (l .sets)) (l .sets) (omega arith)) ∙ following-done (l .inv .5 keys ms rest w q n s) (omega (arith, c .loop-test .left, polygons-count s .1)),
@@ -133,6 +147,12 @@ polygons-spec =
     (λ c. turn (judged (c .before .before)) .before .loop .inv .4)
     returns
     (λ c. search needs)
+    (λ c. omega (arith, few (turn (judged (c .before .before)))))
+    (λ c. counts-kept (judged (c .before .before)))
+    (λ c. labels-kept (judged (c .before .before)))
+    (λ c. turn (judged (c .before .before)) .before .loop .inv .4)
+    returns-2
+    (λ c. search needs)
     mark-requires
     (λ c. omega (arith, few (turn (judged (carried (marked c) .before .before)))))
     (λ c. omega (arith, turn (judged (carried (marked c) .before .before)) .loop-test .taken))
@@ -140,4 +160,4 @@ polygons-spec =
     (λ c. c .before .loop .inv .2)
     (λ c. c .before .loop .inv .3)
     (λ c. c .before .loop .inv .4)
-    returns-2)
+    returns-3)

@@ -1,24 +1,29 @@
 -- `owners_judge::judge` meets its contract: a stray piece, labels that can't be forced, or forced labels with other counts leave no set that
--- carries the member; else the labelled set does. Assumes nothing.
+-- carries the member; else the labelled set does, and the member has ground exactly if a label is set. Assumes nothing.
 use mathlib.Core.Path.{_≡_, refl, sym, _∙_}
-use mathlib.Core.Bool.{Bool}
+use mathlib.Core.Bool.{Bool, true, false}
 use mathlib.Core.List.{List}
 use mathlib.Core.Option.{Option, none, some}
 use Prim.Native.Nat.{ℕ}
+use borrow.Author.Tests.{not-true, not-false}
 use denote.Ref.{now}
 use lib.ListN.{length}
+use Rattle.whole.specs.Sums.{any}
 use Rattle.whole.specs.Tests.{Told}
 use Rattle.whole.proofs.Tests.{told-no, told-yes}
 use Rattle.plane.specs.Points.{Edge}
 use Rattle.plane.specs.Boundaries.{sidesOf}
+use Rattle.plane.specs.Keys.{pairs}
+use Rattle.plane.specs.Members.{Member, memberEdges}
 use Rattle.table.specs.Sides.{trianglesOf}
 use Rattle.table.proofs.Shares.{length-sides}
 use Rattle.table_count.specs.Counting.{piecesOf, Tallied, Settled, Stray}
 use Rattle.table_labels.specs.Labels.{Sided, forcing}
 use Rattle.table_labels.proofs.Forcing.{forcing-yes, forcing-no}
 use Rattle.table_labels.proofs.Compared.{sided, tallied-room}
+use Rattle.owners.specs.Judging.{carried, noGround, judge}
 use Rattle.owners_judge.specs.Preparing.{Prepared}
-use Rattle.owners_judge.proofs.Judged.{judge-stray, judge-unforced, judge-other, judge-carried}
+use Rattle.owners_judge.proofs.Judged.{judge-stray, judge-unforced, judge-other, judge-empty, judge-carried}
 use borrow.Author.Needs.{needs}
 use Rattle.owners_judge.proofs.judge.Statement.{statement}
 use Rattle.owners_judge.proofs.judge.Tie as tie
@@ -121,14 +126,25 @@ returns-3 c = λ keys m w q n e.
     (λ s l. forcing-yes _ (now (a .order)) (counts (tally-call d)) _ (labelled d w q _ n) (w .reaches) (now (a .labels)) (labels f) yes refl s (l ∙ sym n))
     (told-no _ _ (c .before .agree .result) (c .if3 .taken) (c .before .agree .ensures)))
 
-returns-4 : tie.Need-returns-4
-returns-4 c = λ keys m w q n e.
+-- The comparison came out: the labelled set has the member's boundary.
+compared : (c : tie.Else3) {keys : List ℕ} (m : Member) → let d = tallied (force-call (c .before .before .before .before)) in let a = entry d .args in Found (entry d) keys → length (now (a .counts)) ≡ length keys
+    → length (now (a .labels)) ≡ length (trianglesOf keys) → pairs (now (a .from)) (now (a .to)) ≡ memberEdges m → let s = labels (force-call (c .before .before .before .before)) in
+    (any (λ b. b) s ≡ false → judge (trianglesOf keys) m ≡ noGround) × (any (λ b. b) s ≡ true → judge (trianglesOf keys) m ≡ carried s)
+compared c {keys} m w q n e =
     let f = force-call (c .before .before .before .before) in
     let d = tallied f in
     let a = entry d .args in
     let k = counted d w q in
-    sym (judge-carried keys _ _ _ _ w (now (a .from)) (now (a .to)) m e (counts (tally-call d)) (k .0) (labels f) (f .force .ensures .0 ∙ n) (k .1)
-    (told-yes _ _ (c .before .agree .result) (c .if3 .left) (c .before .agree .ensures)))
+    let h = told-yes _ _ (c .before .agree .result) (c .if3 .left) (c .before .agree .ensures) in (
+      judge-empty keys _ _ _ _ w (now (a .from)) (now (a .to)) m e (counts (tally-call d)) (k .0) (labels f) (f .force .ensures .0 ∙ n) (k .1) h,
+      judge-carried keys _ _ _ _ w (now (a .from)) (now (a .to)) m e (counts (tally-call d)) (k .0) (labels f) (f .force .ensures .0 ∙ n) (k .1) h,
+    )
+
+returns-4 : tie.Need-returns-4
+returns-4 c = λ keys m w q n e. sym (compared (c .before .before .before) m w q n e .0 (sym (c .before .is-some .ensures) ∙ not-true (c .before .is-some .result) (c .if4 .taken)))
+
+returns-5 : tie.Need-returns-5
+returns-5 c = λ keys m w q n e. sym (compared (c .before .before .before) m w q n e .1 (sym (c .before .is-some .ensures) ∙ not-false (c .before .is-some .result) (c .if4 .left)))
 
 pub judge-spec : {M : Type 1} → statement M
 judge-spec =
@@ -145,6 +161,10 @@ judge-spec =
     (λ c. search needs)
     (λ c. search needs)
     returns-3
+    (λ c κs. search needs)
     (λ c. search needs)
     (λ c. search needs)
-    returns-4)
+    returns-4
+    (λ c. search needs)
+    (λ c. search needs)
+    returns-5)

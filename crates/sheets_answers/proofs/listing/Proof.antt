@@ -1,5 +1,5 @@
 -- `sheets_answers::listing` meets its contract: the listing stands at the front of the work list. Assumes nothing.
-use mathlib.Core.Path.{_≡_, refl, sym, _∙_, ap, subst}
+use mathlib.Core.Path.{_≡_, sym, _∙_, ap, subst}
 use mathlib.Core.List.{List, _++_}
 use Prim.Native.Nat.{ℕ, _*_, _≤_}
 use native.Mathlib.Omega.{arith}
@@ -13,6 +13,7 @@ use Rattle.lent.proofs.Answered.{answered-short, answered-bytes}
 use Rattle.judged.specs.Judged.{judgedSheet}
 use Rattle.listing.specs.Listing.{listing}
 use Rattle.outcomes.specs.Entries.{sheetListing}
+use Rattle.outcomes.proofs.Judged.{listing-on}
 use Rattle.sheets_answers.proofs.listing.Statement.{statement}
 use Rattle.sheets_answers.proofs.listing.Tie as tie
 
@@ -31,7 +32,7 @@ fits : (c : tie.After-print) → c .print .result ≤ length (c .print .last .1 
 fits c = omega (arith, c .print .ensures .0, c .print .kept .1 .0)
 
 returns : tie.Need-returns
-returns c = let p = c .before .before in answered-short _ _ (length (text p)) (text p) refl (omega (arith, many p))
+returns c = let p = c .before .before in answered-short _ _ (length (text p)) (text p) (listing-on (now (start p .args .sheet))) (omega (arith, many p))
 
 put-word-requires : tie.Need-put-word-requires
 put-word-requires c κs = let p = c .before .before .before .before in omega (arith, length-take-le (p .print .result) (p .print .last .1 .0) (fits p))
@@ -43,7 +44,7 @@ returns-2 c =
     let p = e .before .before in
     let a = start p .args in
     subst (λ m. Answered (sheetListing (now (a .sheet))) (now (a .out)) (m * 256) (w .last .0)) (many p)
-    (answered-bytes _ _ (length (text p)) (text p) refl _ (omega (arith, many p, e .if1 .left))
+    (answered-bytes _ _ (length (text p)) (text p) (listing-on (now (a .sheet))) _ (omega (arith, many p, e .if1 .left))
     (put-over (w .ensures) ∙ ap (λ l. l ++ drop (length l) (now (a .out))) (put-front (p .print .ensures .1))))
 
 pub listing-spec : {M : Type 1} → statement M

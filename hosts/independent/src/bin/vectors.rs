@@ -1,5 +1,6 @@
 //! `vectors FILE [BRIDGE]`: compares every `call` and `listing` line of a vectors file with the independent answers, or
-//! with those of the library behind a bridge. Prints each difference and last `N passed, M failed`; the exit status is 1
+//! with those of the library behind a bridge. An entry is named short (`sets`, and the polygon asked for as a number) or as
+//! it is exported (`sheet_owner_sets`, and what is asked as `polygon=NUMBER`, or `-`). Prints each difference and last `N passed, M failed`; the exit status is 1
 //! if any failed.
 
 use independent::bridge::{start, Call, Function, Room};
@@ -75,11 +76,15 @@ fn unhex(hex: &str) -> Vec<u8> {
 
 fn entry(name: &str, asked: &str) -> Entry {
     match name {
-        "numbers" => Entry::Numbers,
-        "write" => Entry::Write,
-        "sets" => Entry::OwnerSets,
-        "owners" => Entry::Owners,
-        "boundary" => Entry::Boundary(asked.parse().expect("a polygon's number")),
+        "numbers" | "sheet_numbers" => Entry::Numbers,
+        "write" | "sheet_write" => Entry::Write,
+        "sets" | "sheet_owner_sets" => Entry::OwnerSets,
+        "owners" | "sheet_owners" => Entry::Owners,
+        "boundary" | "sheet_boundary" => {
+            let number = asked.strip_prefix("polygon=").unwrap_or(asked);
+            Entry::Boundary(number.parse().expect("a polygon's number"))
+        }
+        "sheet_listing" => Entry::Listing,
         _ => panic!("unknown entry {name}"),
     }
 }

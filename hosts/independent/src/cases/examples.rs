@@ -10,7 +10,7 @@ pub fn strip_sheet() -> Geometry {
 }
 
 /// The sheets of the folder examples/, by name: the strip sheet, a clean one, one with gaps and overlaps, one of nested
-/// collections, one that is refused, and the story: a corner of two polygons stands on the straight boundary of the third, with
+/// collections, two that are refused, and the story: a corner of two polygons stands on the straight boundary of the third, with
 /// the corner in the table and without it.
 pub fn shown() -> Vec<(&'static str, Geometry)> {
     let blocks = [((0, 4), (0, 4)), ((2, 6), (0, 2)), ((0, 2), (2, 6)), ((4, 6), (4, 6))];
@@ -20,10 +20,16 @@ pub fn shown() -> Vec<(&'static str, Geometry)> {
         ("gaps-and-overlaps", sheet(&nine(), blocks.map(|(x, y)| one(rectangle(x, y))).to_vec())),
         ("no-polygons", on_strip(vec![])),
         ("not-carried", on_strip(vec![strip_part(0, 4), strip_part(0, 3)])),
+        ("no-ground", on_strip(vec![strip_part(0, 4), line_drawn_twice()])),
         ("nested", nested_sheet()),
         ("story", sheet(&story_table(), story_members())),
         ("story-without-the-corner", sheet(&story_table_without(), story_members())),
     ]
+}
+
+/// A polygon that is one line drawn twice, along the strip sheet's lower edge from 4 to 8.
+fn line_drawn_twice() -> Geometry {
+    one(closed(&[(4, 0), (8, 0), (8, 0)]))
 }
 
 /// A square in four triangles round its middle. Polygon 1 is three parts of two nested collections, polygon 2 the rest and one
@@ -72,7 +78,7 @@ pub(super) fn cases(cases: &mut Cases) {
     cases.refused("example 5 - a point that is no table corner", by(&off), (20, 1));
     let spike = [(0, 0), (2, 0), (4, 0), (2, 0), (2, 4), (0, 4)];
     cases.sets("example 6 - a spike out and back", by(&spike), &[1, 1, 0, 0, 0, 0, 0, 0]);
-    cases.sets("example 7 - carried by the empty set", by(&[(0, 0), (2, 0), (0, 0)]), &[0; 8]);
+    cases.refused("example 7 - a line there and back", by(&[(0, 0), (2, 0), (0, 0)]), (21, 1));
     let twice = on_strip(vec![multi_polygon(vec![one(closed(&ring)), one(closed(&ring))])]);
     cases.refused("example 8 - example 1 twice in one MultiPolygon", twice, (20, 1));
     let strip = strip_table();
@@ -87,7 +93,7 @@ pub(super) fn cases(cases: &mut Cases) {
 }
 
 /// What document 01 says of the sheets of the folder examples/, in their order.
-fn shown_outcomes() -> [Outcome; 8] {
+fn shown_outcomes() -> [Outcome; 9] {
     use Outcome::{Refused, Sets};
     [
         Sets(vec![1, 1, 3, 3, 2, 2, 0, 0]),
@@ -95,6 +101,7 @@ fn shown_outcomes() -> [Outcome; 8] {
         Sets(vec![1, 1, 3, 3, 2, 2, 5, 5, 1, 1, 0, 0, 4, 4, 0, 0, 8, 8]),
         Sets(vec![0; 8]),
         Refused(20, 2),
+        Refused(21, 2),
         Sets(vec![1, 1, 3, 2]),
         Sets(vec![1, 1, 1, 1, 1, 2, 2, 4, 4]),
         Refused(20, 2),
@@ -125,7 +132,6 @@ mod tests {
             ("example 1 - the rectangle (0,0)(4,0)(4,4)(0,4)", 32),
             ("example 3 - one triangle", 8),
             ("example 6 - a spike out and back", 16),
-            ("example 7 - carried by the empty set", 0),
         ];
         for (name, area) in areas {
             assert!(listing(&named(name)).contains(&format!("\npolygon 1 {area}\n")), "{name}");
@@ -137,6 +143,7 @@ mod tests {
         let input = named("no-polygons");
         assert_eq!(answer(Entry::OwnerSets, &input, 64), (8 * 256, Some(vec![0; 64])));
         assert_eq!(answer(Entry::Owners, &input, 64), (30, None));
+        assert_eq!(answer(Entry::Boundary(1), &input, 64), (41, None));
         assert_eq!(listing(&input), "sheet 8 0\ngap 8 64\noverlap 0 0\nverdict repair\nrefused 30 0\n");
     }
 }

@@ -47,7 +47,7 @@ fn rule_a(cases: &mut Cases) {
     }
 }
 
-/// Reading comes before the rules, 10 before 11 before 12 before 20.
+/// Reading comes before the rules, 10 before 11 before 12 before 20 and 21.
 fn order(cases: &mut Cases) {
     let strip = strip_table();
     let never = || strip_part(0, 1);

@@ -79,10 +79,8 @@ fn over_rings(cases: &mut Cases) {
     cases.refused("out and never back", on_strip(vec![polygon(vec![whole(), out()])]), (20, 1));
 }
 
-/// Edges of no length, and nothing but these.
+/// Edges of no length.
 fn no_length(cases: &mut Cases) {
     let repeated = [way(&[(0, 0), (0, 0)]), from_to(0, 8), way(&[(0, 0)])].concat();
     cases.sets("points that are repeated", on_strip(vec![one(repeated)]), &[1; 8]);
-    let nothing = vec![one(way(&[(3, 3); 4])), one(way(&[(-9, 9); 5])), one(way(&[(1, 1), (7, 2), (1, 1), (1, 1)]))];
-    cases.sets("polygons of one point and of one way out and back", on_strip(nothing), &[0; 8]);
 }

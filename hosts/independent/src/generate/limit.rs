@@ -36,8 +36,27 @@ fn still(draft: &Draft, points: usize) -> Ring {
     ring
 }
 
-/// Puts this member in the place of another, or after them.
+/// Gives ground to a shape of still rings, mostly: its first ring, if it has 4 points or more, goes round the table's first piece.
+fn with_ground(dice: &mut Dice, draft: &Draft, mut shape: Shape) -> Shape {
+    let still = first_ring(&mut shape).filter(|ring| ring.len() > 3 && !dice.chance(20));
+    if let Some(ring) = still {
+        ring[2] = draft.pieces[0][2];
+    }
+    shape
+}
+
+/// The first ring of a shape, if there is one where its first ring would stand.
+fn first_ring(shape: &mut Shape) -> Option<&mut Ring> {
+    match shape {
+        Shape::Polygon(part) => part.first_mut(),
+        Shape::Multi(parts) => parts.first_mut()?.first_mut(),
+        Shape::Collection(shapes) | Shape::Strange(_, shapes) => first_ring(shapes.first_mut()?),
+    }
+}
+
+/// Puts this member, mostly given ground, in the place of another, or after them.
 fn put(dice: &mut Dice, draft: &mut Draft, shape: Shape) {
+    let shape = with_ground(dice, draft, shape);
     let place = dice.below(draft.members.len() + 1);
     if place < draft.members.len() {
         draft.members[place] = shape;
@@ -109,6 +128,7 @@ fn sheet_points(dice: &mut Dice, draft: &mut Draft) {
     let rest = about(dice, 4_096).saturating_sub(used).max(8);
     let first = 4 + dice.below(rest - 7);
     let shape = Shape::Polygon(vec![still(draft, first), still(draft, rest - first)]);
+    let shape = with_ground(dice, draft, shape);
     draft.members.truncate(63);
     draft.members.push(shape);
 }
@@ -125,7 +145,7 @@ fn points(shape: &Shape) -> usize {
 
 /// 64 to 66 members of the sheet, the table counted.
 fn sheet_members(dice: &mut Dice, draft: &mut Draft) {
-    let shape = Shape::Polygon(vec![still(draft, 4)]);
+    let shape = with_ground(dice, draft, Shape::Polygon(vec![still(draft, 4)]));
     draft.members.resize(about(dice, 64), shape);
 }
 

@@ -7,7 +7,7 @@ use crate::plane::double_area;
 use crate::table::{corners, sorted_sides};
 use crate::{Member, Point, Ring, Side, Triangle};
 
-/// Members for this table, all carried: gaps and overlaps of every kind, or a clean sheet.
+/// Members for this table, all carried and with ground: gaps and overlaps of every kind, or a clean sheet.
 pub fn members(dice: &mut Dice, triangles: &[Triangle]) -> Vec<Member> {
     let count = match dice.below(100) {
         0..=5 => 0,
@@ -19,7 +19,8 @@ pub fn members(dice: &mut Dice, triangles: &[Triangle]) -> Vec<Member> {
     let table_corners = corners(triangles);
     let mut points = 0;
     let mut members = Vec::new();
-    for set in sets(dice, triangles, count as usize) {
+    let sets = sets(dice, triangles, count as usize);
+    for set in sets.into_iter().filter(|set| set.contains(&true)) {
         let member = member(dice, triangles, &table_corners, &set);
         points += point_count(&member);
         if points > SHEET_POINTS {
@@ -36,12 +37,11 @@ pub fn shared_out(dice: &mut Dice, triangles: &[Triangle], count: usize) -> Vec<
     sets.collect::<Vec<_>>().iter().map(|set| vec![trace(dice, triangles, set)]).collect()
 }
 
-/// Sets of triangles, one for each member.
+/// Sets of triangles, one for each member; a set may be empty.
 fn sets(dice: &mut Dice, triangles: &[Triangle], count: usize) -> Vec<Vec<bool>> {
     match dice.below(20) {
         0..=5 => partition(dice, triangles, count),
         6..=9 => torn_partition(dice, triangles, count),
-        10 => vec![vec![false; triangles.len()]; count],
         _ => (0..count).map(|_| some_set(dice, triangles)).collect(),
     }
 }
@@ -77,9 +77,8 @@ fn torn_partition(dice: &mut Dice, triangles: &[Triangle], count: usize) -> Vec<
 /// One random set of triangles.
 fn some_set(dice: &mut Dice, triangles: &[Triangle]) -> Vec<bool> {
     match dice.below(12) {
-        0 => vec![false; triangles.len()],
-        1 => vec![true; triangles.len()],
-        2 | 3 => noise(dice, triangles.len()),
+        0 => vec![true; triangles.len()],
+        1..=3 => noise(dice, triangles.len()),
         4..=6 => window(dice, triangles),
         _ => region(dice, triangles),
     }
@@ -118,12 +117,33 @@ fn region(dice: &mut Dice, triangles: &[Triangle]) -> Vec<bool> {
     set
 }
 
-/// A member carried by this set.
+/// A member carried by this set, which isn't empty.
 pub fn member(dice: &mut Dice, triangles: &[Triangle], corners: &[Point], set: &[bool]) -> Member {
-    let mut rings = rings(dice, triangles, set);
-    if rings.is_empty() {
-        rings.push(nothing(dice, corners));
+    let rings = rings(dice, triangles, set);
+    drawn(dice, rings, corners)
+}
+
+/// A member without ground: ways out and back, or rings round a set and others the other way round it.
+pub fn without_ground(dice: &mut Dice, triangles: &[Triangle]) -> Member {
+    let corners = corners(triangles);
+    let mut all = Vec::new();
+    if dice.chance(50) {
+        let set = some_set(dice, triangles);
+        all = rings(dice, triangles, &set);
+        for mut ring in rings(dice, triangles, &set) {
+            ring.reverse();
+            all.push(ring);
+        }
     }
+    while all.is_empty() || dice.chance(20) {
+        all.push(nothing(dice, &corners));
+    }
+    dice.shuffle(&mut all);
+    drawn(dice, all, &corners)
+}
+
+/// A member of these rings, begun anywhere, with what cancels added and what is straight left out.
+fn drawn(dice: &mut Dice, mut rings: Vec<Ring>, corners: &[Point]) -> Member {
     let straight = dice.pick(&[0, 50, 100, 100]);
     let frills = dice.pick(&[0, 0, 0, 20, 60]);
     for ring in &mut rings {
@@ -307,7 +327,7 @@ fn group(dice: &mut Dice, rings: Vec<Ring>) -> Member {
 }
 
 /// The points of a member, closing points included.
-fn point_count(member: &Member) -> usize {
+pub fn point_count(member: &Member) -> usize {
     member.iter().flatten().map(Vec::len).sum()
 }
 

@@ -1,10 +1,11 @@
-//! Sheets in numbers: sound ones, and ones of which, mostly, a member isn't carried.
+//! Sheets in numbers: sound ones, ones of which, mostly, a member isn't carried, and ones of which a member has no ground.
 
 use super::dice::Dice;
 use super::{mesh, polygons, spoil};
+use crate::limits::SHEET_POINTS;
 use crate::Sheet;
 
-/// A sheet whose table keeps the rules and whose members are all carried.
+/// A sheet whose table keeps the rules and whose members are all carried and have ground.
 pub fn sound_sheet(dice: &mut Dice) -> Sheet {
     let triangles = mesh::rectangle(dice);
     let polygons = polygons::members(dice, &triangles);
@@ -16,6 +17,24 @@ pub fn not_carried_sheet(dice: &mut Dice) -> Sheet {
     let mut sheet = sound_sheet(dice);
     for _ in 0..1 + dice.below(2) {
         spoil::member(dice, &mut sheet);
+    }
+    sheet
+}
+
+/// A sheet with members without ground before, between or after the others, of which now and then one isn't carried; or with
+/// no others.
+pub fn without_ground_sheet(dice: &mut Dice) -> Sheet {
+    let mut sheet = if dice.chance(40) { not_carried_sheet(dice) } else { sound_sheet(dice) };
+    if dice.chance(15) {
+        sheet.polygons.clear();
+    }
+    for _ in 0..1 + dice.below(3) {
+        let member = polygons::without_ground(dice, &sheet.triangles);
+        let points = polygons::sheet_points(&sheet.polygons) + polygons::point_count(&member);
+        if points <= SHEET_POINTS && sheet.polygons.len() < 64 {
+            let place = dice.below(sheet.polygons.len() + 1);
+            sheet.polygons.insert(place, member);
+        }
     }
     sheet
 }

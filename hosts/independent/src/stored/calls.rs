@@ -126,9 +126,9 @@ mod tests {
     #[test]
     fn every_code_of_every_entry_is_stored() {
         let reading = [0, 1, 2, 3, 4, 5, 6, 7, 8, 40];
-        let judging = [&reading[..], &[10, 11, 12, 20]].concat();
+        let judging = [&reading[..], &[10, 11, 12, 20, 21]].concat();
         let owners = [&judging[..], &[30]].concat();
-        let boundary = [&owners[..], &[41]].concat();
+        let boundary = [&judging[..], &[41]].concat();
         let wanted = [&reading[..], &[0, 40, 42], &judging, &owners, &boundary, &[0, 40]];
         let stored: BTreeSet<(u8, u8)> = tried().into_iter().map(|(entry, code, _)| (entry, code)).collect();
         let numbered = wanted.iter().enumerate();
