@@ -42,6 +42,7 @@ extern "C" {
 #define SHEETS_OWNERS_ROOM 1024
 #define SHEETS_BOUNDARY_ROOM 49152
 #define SHEETS_LISTING_ROOM 6600
+#define SHEETS_POSITION_ROOM 16
 
 /* Free stack that a calling thread needs, in bytes. */
 #define SHEETS_STACK 524288
@@ -75,6 +76,14 @@ uint64_t sheet_boundary(const uint8_t *sheet, size_t sheet_len, uint32_t polygon
 /* The printed listing as ASCII text: the sheet, its polygons with their double areas in square millimetres, gaps, overlaps, the verdict, what each
    polygon owns after repair. A refused sheet has a listing too: `refused` code item. Item: bytes. Refusal: 40. */
 uint64_t sheet_listing(const uint8_t *sheet, size_t sheet_len, uint8_t *out, size_t out_len);
+
+/* Where in the bytes reading stops: the answer that sheet_numbers gives with room enough, item * 256 + code, and the position of the field at fault,
+   counted in bytes from 0, as two little-endian uint64. The position is 0 for any answer but the refusals 1 to 8, which the other entries that take a
+   sheet give alike. It is that of the field's first byte: for 1 of the field that is cut short, a point being one field, which may be sheet_len; for 2
+   of the byte order, for 3 and 8 of the type, for 4 of the count, or of the type of the 65th polygon under a member; for 5 of the double, x before y;
+   for 6 of the ring's last point; for 7 of what follows the sheet. Mode 0 is the only one; for any other the answer told is 57. Item: 16, the bytes.
+   Refusal: 40. */
+uint64_t sheet_position(const uint8_t *sheet, size_t sheet_len, uint32_t mode, uint8_t *out, size_t out_len);
 
 #ifdef __cplusplus
 }

@@ -35,6 +35,13 @@ struct Side {
     std::int32_t ux, uy, vx, vy;
 };
 
+// What reading comes to: the length of the numbers form in bytes, or a refusal, and for a refusal the position of the field at fault, counted in bytes from 0.
+// It is 0 where the sheet is read.
+struct Position {
+    Answer<std::uint64_t> answer;
+    std::uint64_t byte;
+};
+
 // What a sheet is found to be: every triangle has exactly one owner; there are gaps or overlaps; or it was refused before repair.
 enum class Finding { Clean, Repair, Refused };
 
@@ -76,13 +83,19 @@ inline const std::uint8_t *given(const std::uint8_t *bytes, std::size_t size) {
     return size == 0 ? &none : bytes;
 }
 
+// What a packed answer says: its item, or a refusal.
+inline Answer<std::uint64_t> unpacked(std::uint64_t answer) {
+    if (SHEETS_CODE(answer) != 0) return {{SHEETS_CODE(answer), SHEETS_ITEM(answer)}, 0};
+    return {{}, SHEETS_ITEM(answer)};
+}
+
 // The answer of an entry, which has `size` bytes for each one that its item counts.
 template <class Entry>
 Answer<Bytes> call(std::size_t room, std::size_t size, Entry entry) {
     Bytes lent(room);
-    std::uint64_t answer = entry(lent.data(), lent.size());
-    if (SHEETS_CODE(answer) != 0) return {{SHEETS_CODE(answer), SHEETS_ITEM(answer)}, {}};
-    lent.resize(size * static_cast<std::size_t>(SHEETS_ITEM(answer)));
+    const Answer<std::uint64_t> answer = unpacked(entry(lent.data(), lent.size()));
+    if (!answer) return {answer.refusal, {}};
+    lent.resize(size * static_cast<std::size_t>(answer.value));
     return {{}, std::move(lent)};
 }
 
@@ -168,6 +181,18 @@ inline std::string listing(const std::uint8_t *sheet, std::size_t size) {
     if (!answer) throw std::logic_error("the room is enough for every listing");
     return std::string(answer.value.begin(), answer.value.end());
 }
+
+// Where in its bytes a sheet can't be read.
+inline Position position(const std::uint8_t *sheet, std::size_t size) {
+    Answer<Bytes> answer = inside::call(SHEETS_POSITION_ROOM, 1, [&](std::uint8_t *lent, std::size_t room) {
+        return sheet_position(inside::given(sheet, size), size, 0, lent, room);
+    });
+    if (!answer) throw std::logic_error("the room is enough for every position");
+    return {inside::unpacked(inside::little<std::uint64_t>(&answer.value[0])), inside::little<std::uint64_t>(&answer.value[8])};
+}
+
+// Is it a refusal of reading, whose position can be asked for?
+inline bool of_reading(Refusal refusal) { return refusal.code >= 1 && refusal.code <= 8; }
 
 // The verdict on a sheet.
 inline Verdict verdict(const std::uint8_t *sheet, std::size_t size) {

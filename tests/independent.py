@@ -14,7 +14,7 @@ def run(program, *words):
 
 
 def answers(paths):
-    """For each file its verdict, 'clean', 'repair' or 'refused CODE ITEM', and the lines of its listing."""
+    """For each file its verdict, 'clean', 'repair', 'refused CODE ITEM' or 'refused CODE ITEM POSITION' where reading refuses, and the lines of its listing."""
     printed = [answer.split("\n") for answer in run("answers", *paths).split("\n\n")[:-1]]
     assert len(printed) == len(paths)
     return [(verdict, listing) for verdict, *listing in printed]

@@ -1,7 +1,8 @@
 #!/usr/bin/env python3
 """Faults planted in the hosts are noticed: each hosts/planted/*.edit goes into a copy, which is built, and the smallest test that is to notice it must fail.
 
-    python3 tests/planted.py DIFFER CHECKER GATE FOLDER    'N passed, M failed'; FOLDER has a few sheets, one of them with more than 1,000 bytes of listing
+    python3 tests/planted.py DIFFER CHECKER GATE FOLDER    'N passed, M failed'; FOLDER has a few sheets, one of them with more than 1,000 bytes of listing,
+                                                           and one that reading refuses behind byte 1,000
 
 An edit is written as those of crates/*/must-fail: `file:`, and then `old:`, which stands there once, and `new:`. The copy without an edit must pass first. A text
 that isn't found, a copy that can't be built and a fault that nothing notices are failures. CHECKER and GATE are commands, built from the hosts as they are.
@@ -67,15 +68,13 @@ class Copy:
         built = ["--manifest-path", self.path(manifest + "/Cargo.toml"), "--bin", program]
         return [["cargo", "build", "--quiet", "--target", TARGET, "--target-dir", self.made, *built]]
 
-    def test(self, part):
-        """The command that tests a part."""
-        sheets = [sys.executable, os.path.join(ROOT, "tests", "programs.py"), "--sheets"]
-        return {
-            "header": [self.differ, "--wrapped", self.made_by_cmake("bridge"), "largest", "5"],
-            "crate": [self.differ, "--wrapped", self.made_by_cargo("bridge"), "largest", "5"],
-            "checker": [*sheets, self.made_by_cmake("checker"), self.gate, self.folder],
-            "gate": [*sheets, self.checker, self.made_by_cargo("gate"), self.folder],
-        }[part]
+    def tests(self, part):
+        """The commands that test a part: a wrapper on the largest sheets and on some that can't be read, a program on the folder's."""
+        if part in ("header", "crate"):
+            bridge = self.made_by_cmake("bridge") if part == "header" else self.made_by_cargo("bridge")
+            return [[self.differ, "--wrapped", bridge, *inputs] for inputs in (("largest", "5"), ("seeds", "60"))]
+        programs = (self.made_by_cmake("checker"), self.gate) if part == "checker" else (self.checker, self.made_by_cargo("gate"))
+        return [[sys.executable, os.path.join(ROOT, "tests", "programs.py"), "--sheets", *programs, self.folder]]
 
     def tried(self, part):
         """What became of the part as it stands: 'not built', 'passed', 'failed', or 'broken' where the test doesn't say."""
@@ -84,12 +83,15 @@ class Copy:
             if built.returncode != 0:
                 print(built.stdout + built.stderr)
                 return "not built"
-        tested = subprocess.run(self.test(part), capture_output=True, text=True)
-        told = re.search(r"(\d+) passed, (\d+) failed\n$", tested.stdout)
-        if told is None or (tested.returncode == 0) != (told[2] == "0"):
-            print(tested.stdout + tested.stderr)
-            return "broken"
-        return "failed" if tested.returncode else "passed"
+        for command in self.tests(part):
+            tested = subprocess.run(command, capture_output=True, text=True)
+            told = re.search(r"(\d+) passed, (\d+) failed\n$", tested.stdout)
+            if told is None or (tested.returncode == 0) != (told[2] == "0"):
+                print(tested.stdout + tested.stderr)
+                return "broken"
+            if tested.returncode:
+                return "failed"
+        return "passed"
 
     def planted(self, name, file, old, new):
         """Is the fault noticed?"""

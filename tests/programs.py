@@ -41,12 +41,18 @@ def refusals():
         return {int(code): (item, sentence) for code, item, sentence in re.findall(r'^SHEETS_REFUSAL\((\d+), (\w+), "(.*)"\)$', f.read(), re.M)}
 
 
-def refused(code, item):
-    """A refusal as both programs print it."""
+def refused(code, item, position=None):
+    """A refusal as both programs print it, with a position exactly for the codes of reading."""
     kind, sentence = refusals()[code]
+    assert (position is not None) == (1 <= code <= 8)
+    at = "" if position is None else " at byte {:,}".format(position)
     member = {0: "the sheet's own header", 1: "member 1, the triangle table"}.get(item, "member %d" % item)
     named = {"TRIANGLE": "triangle %d" % item, "POLYGON": "polygon %d" % item}.get(kind, member)
-    return "refused %d %d: %s" % (code, item, sentence.replace("{}", named))
+    return "refused %d %d%s: %s" % (code, item, at, sentence.replace("{}", named))
+
+
+# What both programs print of a file without a byte.
+EMPTY = refused(1, 0, 0)
 
 
 def told(verdict):
@@ -91,8 +97,9 @@ def summary(lines, passed=0):
 
 def as_line(answer):
     """The verdict line that one of the gate's JSON objects stands for; its name is shown already."""
-    said = {"refused": "refused %s %s: %s", "unreadable": "could not be read: %s"}.get(answer["verdict"], answer["verdict"])
-    return "%s: %s" % (answer["file"], said % tuple(answer[key] for key in ("code", "item", "reason") if key in answer))
+    place = " at byte {:,}".format(answer["position"]) if isinstance(answer.get("position"), int) else ""
+    said = {"refused": "refused {code} {item}{place}: {reason}", "unreadable": "could not be read: {reason}"}.get(answer["verdict"], answer["verdict"])
+    return "%s: %s" % (answer["file"], said.format(place=place, **answer))
 
 
 # ---------------------------------------------------------------------------------------------------------------- running
@@ -212,14 +219,16 @@ def examples(programs):
 def sentences(programs, cases):
     """Refusals in words, written down here, of sheets made by hand."""
     wanted = {
-        "example 11 - no bytes": "refused 1 0: the bytes end too early for the next field of the sheet's own header",
-        "a byte order of 2 with nothing behind it": "refused 2 1: a byte order in member 1, the triangle table is neither 0 nor 1",
-        "a member of type 9": "refused 3 3: a type in member 3 isn't allowed at its place",
-        "a table of no triangles": "refused 4 1: a count in member 1, the triangle table is outside the limits",
-        "-0.5 as the x of a ring's first point, little-endian": "refused 5 2: a point in member 2 isn't given in whole millimetres within 10,000,000",
-        "a ring from (0, 0) to (1, 0) in member 2": "refused 6 2: a ring in member 2 doesn't end at its first point",
-        "a byte after the sheet": "refused 7 0: there are bytes after the sheet",
-        "a collection at depth 5 with no members": "refused 8 2: a collection in member 2 is nested too deep",
+        "example 11 - no bytes": "refused 1 0 at byte 0: the bytes end too early for the next field of the sheet's own header",
+        "a byte order of 2 with nothing behind it": "refused 2 1 at byte 9: a byte order in member 1, the triangle table is neither 0 nor 1",
+        "a member of type 9": "refused 3 3 at byte 266: a type in member 3 isn't allowed at its place",
+        "a table of no triangles": "refused 4 1 at byte 14: a count in member 1, the triangle table is outside the limits",
+        "-0.5 as the x of a ring's first point, little-endian": "refused 5 2 at byte 185: a point in member 2 isn't given in whole millimetres within 10,000,000",
+        "position of the longest sheet's last y": "refused 5 65 at byte 185,930: a point in member 65 isn't given in whole millimetres within 10,000,000",
+        "position of the 65th polygon, big-endian": "refused 4 2 at byte 5,119: a count in member 2 is outside the limits",
+        "a ring from (0, 0) to (1, 0) in member 2": "refused 6 2 at byte 233: a ring in member 2 doesn't end at its first point",
+        "a byte after the sheet": "refused 7 0 at byte 820: there are bytes after the sheet",
+        "a collection at depth 5 with no members": "refused 8 2 at byte 200: a collection in member 2 is nested too deep",
         "a triangle that is clockwise, the last": "refused 10 9: triangle 9 has no area above 0",
         "triangle 3 has a side of 2, triangle 4 one of 1": "refused 11 3: triangle 3 has a side of an earlier triangle",
         "a triangle far from another": "refused 12 0: the triangles don't make up the frame",
@@ -241,11 +250,11 @@ def long_files(programs, cases):
     sheet, farthest = (contents(os.path.join(cases, name)) for name in ("the longest sheet.wkb", "the farthest fault.wkb"))
     files = {}
     for size in (0, 1, READ_CAP - len(sheet), READ_CAP - len(sheet) + 1, 300_000):
-        files["sheet and %06d more" % size] = (sheet + bytes(size), "clean" if size == 0 else refused(7, 0))
-        files["fault and %06d more" % size] = (farthest + b"\1" * size, refused(4, 65))
-    files["fault cut"] = (farthest[:-1], refused(1, 65))
-    files["sheet cut"] = (sheet[:-1], refused(1, 65))
-    files["noise"] = (b"\0" * 1_000_000, refused(3, 0))
+        files["sheet and %06d more" % size] = (sheet + bytes(size), "clean" if size == 0 else refused(7, 0, len(sheet)))
+        files["fault and %06d more" % size] = (farthest + b"\1" * size, refused(4, 65, len(farthest) - 4))
+    files["fault cut"] = (farthest[:-1], refused(1, 65, len(farthest) - 4))
+    files["sheet cut"] = (sheet[:-1], refused(1, 65, len(sheet) - 16))
+    files["noise"] = (b"\0" * 1_000_000, refused(3, 0, 1))
     with folder_of({name: content for name, (content, _) in files.items()}) as folder:
         paths = [os.path.join(folder, name.encode()) for name in files]
         lines = [line(path, said) for path, (_, said) in zip(paths, files.values())]
@@ -256,7 +265,7 @@ def long_files(programs, cases):
             content, said = files[name]
             outcomes += programs.same(name + ", on standard input", ["-"], [line("-", said)], given=content[:READ_CAP + 1000])
         os.truncate(paths[1], 1 << 40)  # a file of a terabyte, most of it never written
-        return outcomes + programs.same("a terabyte", paths[1:2], [line(paths[1], refused(4, 65))])
+        return outcomes + programs.same("a terabyte", paths[1:2], [line(paths[1], files["fault and 000000 more"][1])])
 
 
 # ---------------------------------------------------------------------------------------------------------------- names
@@ -279,9 +288,9 @@ def any_names(programs):
     outcomes = []
     with folder_of(dict.fromkeys(names(), b"")) as folder:
         paths = [os.path.join(folder, name) for name in sorted(names())]
-        outcomes += programs.same("names", paths, [line(path, refused(1, 0)) for path in paths])
+        outcomes += programs.same("names", paths, [line(path, EMPTY) for path in paths])
         taken, passed = ([path for path in paths if path.endswith(b".wkb") == is_sheet] for is_sheet in (True, False))
-        lines = [line(path, refused(1, 0)) for path in taken]
+        lines = [line(path, EMPTY) for path in taken]
         messages = ["gate: " + line(path, "passed over: its name doesn't end in .wkb") for path in passed]
         outcomes.append(equal("names in a folder", run(programs.gate, folder), (2, lines + [summary(lines, len(passed))], messages)))
         for command in (programs.checker, programs.batch, programs.gate, programs.gate + " --json"):
@@ -328,7 +337,7 @@ def too_deep(programs):
             here = below
         os.close(here)
         first_too_long = next(deep for deep in (os.path.join(folder, *[step] * n) for n in range(18)) if len(deep) >= 4096)
-        lines = [line(os.path.join(folder, b"a.wkb"), refused(1, 0)), unread(first_too_long, 36)]
+        lines = [line(os.path.join(folder, b"a.wkb"), EMPTY), unread(first_too_long, 36)]
         return [equal("too deep", run(programs.gate, folder), (3, lines + [summary(lines)], []))]
 
 
@@ -341,16 +350,15 @@ def folders(programs):
         for name, target in (("a/up", ".."), ("z.wkb", "a"), ("link.wkb", "b.wkb"), ("gone.wkb", "gone"), ("gone", "nowhere")):
             os.symlink(target, path(name))
         os.mkfifo(path("pipe"))
-        empty = refused(1, 0)
-        said = {"a-b.WKB": empty, "a.wkb": empty, "a/b.wkb": empty, "a/c/d.Wkb": empty, "b.wkb": empty, "gone.wkb": 2, "link.wkb": empty,
-                "pipe": "it is a pipe", "x.wkb/y.wkb": empty}
+        said = {"a-b.WKB": EMPTY, "a.wkb": EMPTY, "a/b.wkb": EMPTY, "a/c/d.Wkb": EMPTY, "b.wkb": EMPTY, "gone.wkb": 2, "link.wkb": EMPTY,
+                "pipe": "it is a pipe", "x.wkb/y.wkb": EMPTY}
         flat = {**{name: what for name, what in said.items() if "/" not in name}, "x.wkb": "it is a folder"}
         name, to_folder, left_out = "its name doesn't end in .wkb", "it is a link to a folder", "it is a folder, and --flat leaves those out"
         passed = {"a/b.wkb.bak": name, "a/up": to_folder, "a/wkb": name, "gone": name, "no/sheet": name, "notes.txt": name, "z.wkb": to_folder}
         flat_passed = {"a": left_out, "gone": name, "no": left_out, "notes.txt": name, "z.wkb": to_folder}
         outcomes = []
         for words, taken, over in ([], said, passed), (["--flat"], flat, flat_passed):
-            lines = [line(path(name), what) if what == empty else unread(path(name), what) for name, what in taken.items()]
+            lines = [line(path(name), what) if what == EMPTY else unread(path(name), what) for name, what in taken.items()]
             messages = ["gate: " + line(path(name), "passed over: " + why) for name, why in over.items()]
             got = run(programs.gate, *words, folder)
             outcomes.append(equal("folders %s" % words, got, (3, lines + [summary(lines, len(over))], messages)))
@@ -361,7 +369,7 @@ def folders(programs):
         os.mkdir(path("empty"))
         messages = ["gate: " + line(path("no/sheet"), "passed over: " + name)]
         for here, told in (("empty", []), ("no", messages)):
-            lines = [line(path("b.wkb"), empty), unread(path(here), "there is no sheet in it, no file whose name ends in .wkb")]
+            lines = [line(path("b.wkb"), EMPTY), unread(path(here), "there is no sheet in it, no file whose name ends in .wkb")]
             outcomes.append(equal("nothing in it", run(programs.gate, path("b.wkb"), path(here)), (3, lines + [summary(lines, len(told))], told)))
     return outcomes
 
@@ -393,8 +401,8 @@ def options(programs):
     outcomes.append(equal("no word", run(programs.gate), (3, [], ["gate: no file and no folder is named: see gate --help"])))
     with folder_of(dict.fromkeys(["-x", "--", "--help", "-", "y"], b"")) as folder:
         words = ["y", "./-x", "./-", "--", "-x", "--", "--help", "-"]
-        lines = [line(word, refused(1, 0)) for word in words if word != "--"]
-        lines.insert(4, line("--", refused(1, 0)))
+        lines = [line(word, EMPTY) for word in words if word != "--"]
+        lines.insert(4, line("--", EMPTY))
         outcomes += programs.same("names with a dash", words, lines, cwd=folder)
     return outcomes
 
@@ -448,7 +456,7 @@ def steady(programs):
     with folder_of(files) as folder:
         for name in files:
             os.truncate(os.path.join(folder, name.encode()), READ_CAP)
-        lines = [line(os.path.join(folder, name.encode()), refused(3, 0)) for name in files]
+        lines = [line(os.path.join(folder, name.encode()), refused(3, 0, 1)) for name in files]
         return [equal("memory", run(programs.gate, folder, preexec_fn=limited(resource.RLIMIT_AS, 100 << 20)), (2, lines + [summary(lines)], []))]
 
 
@@ -480,7 +488,7 @@ def as_they_come(programs, sheets, lines):
         with start(command, "-", *sheets) as program:
             outcomes.append(equal("order", select.select([program.stdout], [], [], 0.5)[0], []))
             program.stdin.close()
-            outcomes.append(equal("order", waited(program, 1 + len(sheets))[:1 + len(sheets)], [line("-", refused(1, 0)), *lines]))
+            outcomes.append(equal("order", waited(program, 1 + len(sheets))[:1 + len(sheets)], [line("-", EMPTY), *lines]))
     return outcomes
 
 

@@ -1,9 +1,9 @@
 // Calls the entries, or the functions of sheets.hpp, as the frames of standard input say, for a program that has the library on the other side of a pipe.
-// A frame: u8 function (0 numbers, 1 write, 2 owner sets, 3 owners, 4 boundary, 5 listing, 6 verdict), u32 LE asked polygon, u32 LE input length, u32 LE room,
-// input. The answer: u64 LE packed answer, then the lent bytes after the entry's call; lent byte i is (i * 131 + 17) % 256 before it. Bytes before and behind the
-// lent ones are watched: where a call changes one, or one of its input, the program ends with status 2.
+// A frame: u8 function (0 numbers, 1 write, 2 owner sets, 3 owners, 4 boundary, 5 listing, 6 verdict, 7 position), u32 LE asked polygon or mode, u32 LE input
+// length, u32 LE room, input. The answer: u64 LE packed answer, then the lent bytes after the entry's call; lent byte i is (i * 131 + 17) % 256 before it. Bytes
+// before and behind the lent ones are watched: where a call changes one, or one of its input, the program ends with status 2.
 // With a room of 2^32 - 1 a function of sheets.hpp is called. The answer: u64 LE packed answer, u32 LE length, its value in so many bytes, none for a refusal; a
-// verdict is one byte, 0 clean or 1 repair. With --stack N the calls are made on a thread with N KiB of stack.
+// verdict is one byte, 0 clean or 1 repair, and a position is that of mode 0. With --stack N the calls are made on a thread with N KiB of stack.
 #include <sheets.hpp>
 
 #include <pthread.h>
@@ -36,6 +36,7 @@ std::uint64_t call(unsigned entry, std::uint32_t asked, const std::uint8_t *inpu
         case 3: return sheet_owners(input, size, lent, room);
         case 4: return sheet_boundary(input, size, asked, lent, room);
         case 5: return sheet_listing(input, size, lent, room);
+        case 7: return sheet_position(input, size, asked, lent, room);
     }
     std::exit(3);
 }
@@ -92,6 +93,11 @@ struct Value {
     Bytes bytes = {};
 };
 
+// The packed answer of a refusal, or of an item.
+std::uint64_t packed(sheets::Refusal refusal, std::uint64_t item) {
+    return refusal.code == 0 ? item << 8 : refusal.item << 8 | refusal.code;
+}
+
 template <class Number>
 Bytes bytes_of(const std::vector<Number> &numbers) {
     Bytes bytes;
@@ -117,6 +123,14 @@ Value verdict(const std::uint8_t *input, std::size_t size) {
     return {{}, 0, {static_cast<std::uint8_t>(verdict.finding == sheets::Finding::Repair)}};
 }
 
+Value position(const std::uint8_t *input, std::size_t size) {
+    sheets::Position position = sheets::position(input, size);
+    Bytes bytes;
+    put_number(bytes, packed(position.answer.refusal, position.answer.value), 8);
+    put_number(bytes, position.byte, 8);
+    return {{}, bytes.size(), bytes};
+}
+
 // An answer whose item is the length of its value, or of the value's bytes.
 template <class T>
 Value counted(const sheets::Answer<T> &answer, bool by_bytes) {
@@ -134,6 +148,7 @@ Value wrapped(unsigned function, std::uint32_t asked, const std::uint8_t *input,
         case 4: return counted(sheets::boundary(input, size, asked), false);
         case 5: return listing(input, size);
         case 6: return verdict(input, size);
+        case 7: return position(input, size);
     }
     std::exit(3);
 }
@@ -141,7 +156,7 @@ Value wrapped(unsigned function, std::uint32_t asked, const std::uint8_t *input,
 // Calls the function of one frame, and puts its answer behind the others. An empty input comes with a null pointer.
 void answer_wrapped(const std::uint8_t *frame, std::size_t size, Bytes &answers) {
     Value value = wrapped(frame[0], number(frame + 1), size == 0 ? nullptr : frame + head, size);
-    put_number(answers, value.item << 8 | value.refusal.item << 8 | value.refusal.code, 8);
+    put_number(answers, packed(value.refusal, value.item), 8);
     put_number(answers, value.bytes.size(), 4);
     answers.insert(answers.end(), value.bytes.begin(), value.bytes.end());
 }

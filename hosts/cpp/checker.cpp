@@ -10,6 +10,7 @@
 #include <algorithm>
 #include <cerrno>
 #include <csignal>
+#include <cstdint>
 #include <cstdio>
 #include <cstring>
 #include <exception>
@@ -35,6 +36,7 @@ const char help[] =
     "  -h, --help   this text\n"
     "  --version    the version\n"
     "  --           every word behind it is a file\n"
+    "With the codes 1 to 8 it is refused CODE ITEM at byte N: WHY, where N is the place of the fault in the file, 0 for its first byte.\n"
     "FILE is a regular file, or - for standard input. A file whose name begins with a dash is written ./-name, or behind --.\n"
     "Exit status: 0 all sheets are clean, 1 one needs repair, 2 one is refused, 3 one could not be read; the highest counts.\n";
 
@@ -62,13 +64,26 @@ Verdict told(const std::string &listing) {
     throw std::logic_error("a listing without a verdict");
 }
 
-// A verdict behind the name of its file.
-std::string line(const std::string &path, const Verdict &verdict) {
+// A number, its digits in threes from the right with commas between.
+std::string grouped(std::uint64_t number) {
+    std::string digits = std::to_string(number);
+    for (std::size_t place = digits.size(); place > 3;) digits.insert(place -= 3, ",");
+    return digits;
+}
+
+// A refusal of a sheet in words, with the position of the field at fault where reading gives it.
+std::string refused(const sheets::Bytes &sheet, sheets::Refusal refusal) {
+    const std::string numbers = "refused " + std::to_string(refusal.code) + ' ' + std::to_string(refusal.item);
+    const std::string place = sheets::of_reading(refusal) ? " at byte " + grouped(sheets::position(sheet.data(), sheet.size()).byte) : "";
+    return numbers + place + ": " + sheets::sentence(refusal);
+}
+
+// The verdict on a sheet behind the name of its file.
+std::string line(const std::string &path, const sheets::Bytes &sheet, const Verdict &verdict) {
     const std::string name = names::shown(path);
     if (verdict.finding == Finding::Clean) return name + ": clean\n";
     if (verdict.finding == Finding::Repair) return name + ": repair\n";
-    const sheets::Refusal refusal = verdict.refusal;
-    return name + ": refused " + std::to_string(refusal.code) + ' ' + std::to_string(refusal.item) + ": " + sheets::sentence(refusal) + '\n';
+    return name + ": " + refused(sheet, verdict.refusal) + '\n';
 }
 
 Status status(const Verdict &verdict) {
@@ -82,13 +97,13 @@ Status judged(const std::string &path, Print print) {
     const sheets::Bytes sheet = files::read(path);
     if (print == Print::Line) {
         const Verdict verdict = sheets::verdict(sheet.data(), sheet.size());
-        put(line(path, verdict));
+        put(line(path, sheet, verdict));
         return status(verdict);
     }
     const std::string listing = sheets::listing(sheet.data(), sheet.size());
     put((print == Print::Named ? names::shown(path) + ":\n" : "") + listing);
     const Verdict verdict = told(listing);
-    if (verdict.finding == Finding::Refused) say(line(path, verdict));
+    if (verdict.finding == Finding::Refused) say(line(path, sheet, verdict));
     return status(verdict);
 }
 

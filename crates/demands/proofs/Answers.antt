@@ -3,17 +3,19 @@
 use mathlib.Core.Path.{_≡_, refl, sym, _∙_, ap, subst}
 use mathlib.Core.Logic.{_↔_, Iff·trans, _⊎_, inl, inr, ⊎-elim}
 use mathlib.Core.Bool.{Bool}
-use mathlib.Core.List.{List, map, flatMap}
+use mathlib.Core.List.{List, _++_, map, flatMap}
 use mathlib.Core.Option.{Option, none, some}
 use Prim.Native.Nat.{ℕ, _<_}
 use native.Mathlib.Omega.{arith}
-use lib.Dec.{T}
-use lib.ListN.{length}
+use lib.Dec.{T, eqb}
+use lib.ListN.{length, length-append}
 use Rattle.whole.specs.Sums.{All}
+use Rattle.whole.proofs.Tests.{by-cond}
 use Rattle.lent.specs.Stages.{Answer, value, refused, andThen, needing}
 use Rattle.lent.specs.Answered.{Written, Outcome, bytes}
 use Rattle.lent.proofs.Stages.{value-refused, same-refusal, chain-value, chain-refused}
 use Rattle.lent_little.specs.Bytes.{setBytes, sideBytes}
+use Rattle.lent_little.proofs.Bytes.{set-length}
 use Rattle.owners_marks.specs.Marks.{setOf}
 use Rattle.sheet_form.specs.Numbers.{Sheet, members}
 use Rattle.sheet.specs.Read.{readSheet}
@@ -25,9 +27,9 @@ use Rattle.judged.specs.Judged.{Judged, judgedSheet, repairOf}
 use Rattle.listing_lines.specs.Lines.{refusedLine}
 use Rattle.listing.specs.Listing.{listingOf, listing as listingBy}
 use Rattle.outcomes.specs.declared.Wanted.the-variants.{OwnerSets, Owners, Boundary}
-use Rattle.outcomes.specs.Entries.{formOf, formOutcome, onSheet, ownedSides, sidesAfter, goesOn}
+use Rattle.outcomes.specs.Entries.{u64, telling, formOf, formOutcome, onSheet, ownedSides, sidesAfter, goesOn}
 use Rattle.demands.specs.Answers.{HasOwners, HasSets, Refused, NoOwner, Repaired, OnSheet}
-use Rattle.demands.specs.Entries.{numbers, write, ownerSets, owners, boundary, listing, outcomeOf}
+use Rattle.demands.specs.Entries.{numbers, position, write, ownerSets, owners, boundary, listing, outcomeOf}
 use Rattle.demands.proofs.Sets.{with-owners, has-owners, has-sets, owners-each, is-refused, answers-on, refuses-on}
 use Rattle.demands.proofs.After.{same-answer, after-answers, after-refuses, asked-passes, asked-refused}
 
@@ -74,6 +76,20 @@ module _ (s : List ℕ) (all : All (λ b. b < 256) s) where
     λ e. elim (chain-refused (readSheet members s) formOutcome code item .0 e) [ inl p ↦ p | inr (n, p, q) ↦ absurd (value-refused _ code item q) ],
     λ p. chain-refused (readSheet members s) formOutcome code item .1 (inl p),
   )
+
+  -- ---- sheet_position
+  -- It answers for every sequence of bytes and in every mode, with two numbers of 8 bytes each; the item is 16.
+  pub position-answers : (mode item : ℕ) (l : List ℕ) → outcomeOf (position mode) s ≡ bytes item l → (item ≡ 16) × (length l ≡ 16)
+  position-answers mode item l = by-cond (λ o. o ≡ bytes item l → (item ≡ 16) × (length l ≡ 16)) (eqb mode 0) _ _ (λ t. two _ _) (two _ _)
+    where
+      two : (answer at : ℕ) → telling answer at ≡ bytes item l → (item ≡ 16) × (length l ≡ 16)
+      two answer at e =
+          let (f, i) = same-answer 16 item (u64 answer ++ u64 at) l .0 e in
+          (i, omega (arith, ap length f, length-append (u64 answer) (u64 at), set-length answer, set-length at))
+
+  -- Never is it refused.
+  pub position-refuses-nothing : (mode code item : ℕ) → outcomeOf (position mode) s ≡ refused code item → ⊥
+  position-refuses-nothing mode code item = by-cond (λ o. o ≡ refused code item → ⊥) (eqb mode 0) _ _ (λ t e. value-refused _ code item e) (λ e. value-refused _ code item e)
 
   -- ---- sheet_write
   -- "The writer takes this form": it answers exactly if the bytes are the numbers form of a sheet within the limits, and then the sheet's normal

@@ -3,6 +3,7 @@ pub mod Total
 pub mod Reading
 pub mod Writing
 pub mod Answers
+pub mod Positions
 pub mod Room
 pub mod Carried
 pub mod Repair

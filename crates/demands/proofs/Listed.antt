@@ -16,10 +16,10 @@ use Rattle.sheet.proofs.Refusals.{Lawful}
 use Rattle.sheet_form.specs.Numbers.{members}
 use Rattle.sheet.specs.Read.{readSheet}
 use Rattle.demands.specs.Refusals.{Row, alone, rows, inRow, Listed}
-use Rattle.demands.specs.Entries.{Entry, numbers, write, ownerSets, owners, boundary, listing, outcomeOf}
+use Rattle.demands.specs.Entries.{Entry, numbers, position, write, ownerSets, owners, boundary, listing, outcomeOf}
 use Rattle.demands.specs.Answers.{Refused, unread, breaks-A, breaks-B, breaks-C, not-carried, no-ground}
 use Rattle.demands.proofs.Stages.{read-lawful, no-higher, read-limits}
-use Rattle.demands.proofs.Answers.{numbers-refuses, write-refuses, owner-sets-refuses, owners-refuses, boundary-refuses, listing-refuses-nothing}
+use Rattle.demands.proofs.Answers.{numbers-refuses, position-refuses-nothing, write-refuses, owner-sets-refuses, owners-refuses, boundary-refuses, listing-refuses-nothing}
 
 -- ---- the table
 any-at : {A : Type 0} (p : A → Bool) (d : A) (l : List A) (i : ℕ) → i < length l → T (p (getD l i d)) → T (any p l)
@@ -109,6 +109,7 @@ module _ (s : List ℕ) (all : All (λ b. b < 256) s) where
 
   pub outcome-listed : (e : Entry) (code item : ℕ) → outcomeOf e s ≡ refused code item → Listed code item
   outcome-listed numbers code item q = unread-listed code item (numbers-refuses s all code item .0 q)
+  outcome-listed (position mode) code item q = absurd (position-refuses-nothing s all mode code item q)
   outcome-listed write code item q = let (c, i, f) = write-refuses s all code item .0 q in alone-listed 16 (omega arith) refl c i
   outcome-listed ownerSets code item q = refused-listed (owner-sets-refuses s all code item .0 q)
   outcome-listed owners code item q = ⊎-elim refused-listed (λ (c, i, n, sets, h, z). alone-listed 13 (omega arith) refl c i) (owners-refuses s all code item .0 q)

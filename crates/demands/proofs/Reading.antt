@@ -50,11 +50,11 @@ longest s bytes n e = let (g, fits, is, unfolds) = reads-the-standard s bytes n 
 pub end-again : (s : List ℕ) (c d : Cursor) → stepAt s c ≡ End d → stepAt s d ≡ End d
 end-again = Again.end-again
 
-pub refused-again : (s : List ℕ) (c d : Cursor) (code item : ℕ) → stepAt s c ≡ Refused code item d → stepAt s d ≡ Refused code item d
+pub refused-again : (s : List ℕ) (c d : Cursor) (code item field : ℕ) → stepAt s c ≡ Refused code item field d → stepAt s d ≡ Refused code item field d
 refused-again = Again.refused-again
 
 -- "a place past the bytes answers 1, with the member that the place names."
-pub past : (s : List ℕ) (c : Cursor) → length s < c .at → stepAt s c ≡ Refused 1 (c .member) c
+pub past : (s : List ℕ) (c : Cursor) → length s < c .at → stepAt s c ≡ Refused 1 (c .member) (c .at) c
 past = Again.past
 
 -- "A double is a coordinate if it is a whole number from -10,000,000 to 10,000,000 (millimetres) .. The whole number then equals the double exactly."

@@ -31,12 +31,12 @@ use Rattle.sheet_written.proofs.Trip.{written-bytes, round-trip, form-small, re
 use Rattle.outcomes.specs.Entries.{formOf, ownedSides}
 use Rattle.outcomes.proofs.Sized.{line-most, listing-most, sides-most}
 use Rattle.demands.specs.Answers.{Refused, unread, breaks-A, breaks-B, breaks-C, not-carried, no-ground}
-use Rattle.demands.specs.Entries.{Entry, numbers, write, ownerSets, owners, boundary, listing, outcomeOf, roomOf}
+use Rattle.demands.specs.Entries.{Entry, numbers, position, write, ownerSets, owners, boundary, listing, outcomeOf, roomOf}
 use Rattle.demands.proofs.Stages.{read-lawful, no-higher, read-limits}
 use Rattle.demands.proofs.Sets.{with-owners, owners-each}
 use Rattle.demands.proofs.After.{same-answer}
 use Rattle.demands.proofs.Listed.{code-fits, outcome-listed}
-use Rattle.demands.proofs.Answers.{numbers-answers, numbers-refuses, write-answers, write-refuses, owner-sets-answers, owner-sets-refuses, owners-answers, owners-refuses, boundary-answers, boundary-refuses, listing-answers, listing-refuses-nothing}
+use Rattle.demands.proofs.Answers.{numbers-answers, numbers-refuses, position-answers, position-refuses-nothing, write-answers, write-refuses, owner-sets-answers, owner-sets-refuses, owners-answers, owners-refuses, boundary-answers, boundary-refuses, listing-answers, listing-refuses-nothing}
 
 -- The bytes of sides, 16 each.
 sides-length : (l : List Edge) → length (flatMap sideBytes l) ≡ 16 * length l
@@ -63,6 +63,7 @@ module _ (s : List ℕ) (all : All (λ b. b < 256) s) where
 
   not-forty : (e : Entry) (code item : ℕ) → outcomeOf e s ≡ refused code item → code ≡ 40 → ⊥
   not-forty numbers code item q z = omega (arith, unread-low code item (numbers-refuses s all code item .0 q))
+  not-forty (position mode) code item q z = position-refuses-nothing s all mode code item q
   not-forty write code item q z = omega (arith, write-refuses s all code item .0 q .0)
   not-forty ownerSets code item q z = omega (arith, refused-low (owner-sets-refuses s all code item .0 q))
   not-forty owners code item q z = ⊎-elim (λ r. omega (arith, refused-low r)) (λ (c, i, n, sets, h, o). omega (arith, c)) (owners-refuses s all code item .0 q)
@@ -75,6 +76,7 @@ module _ (s : List ℕ) (all : All (λ b. b < 256) s) where
   fits numbers item l q =
       let (n, r, e, i) = numbers-answers s all item l .0 q in
       omega (arith, ap length e, form-length (numbersOf n), form-small members (omega arith) n (read-written members (omega arith) s all n (read-sheet-is members s n .0 r)))
+  fits (position mode) item l q = omega (arith, position-answers s all mode item l q .1)
   fits write item l q = let (n, t, f, e, i) = write-answers s all item l .0 q in omega (arith, ap length e, written-small members n t)
   fits ownerSets item l q =
       let (n, sets, h, e, i) = owner-sets-answers s all item l .0 q in

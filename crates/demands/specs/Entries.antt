@@ -2,11 +2,12 @@
 use mathlib.Core.List.{List}
 use Prim.Native.Nat.{ℕ}
 use Rattle.lent.specs.Answered.{Outcome}
-use Rattle.outcomes.specs.Entries.{sheetNumbers, sheetWrite, sheetOwnerSets, sheetOwners, sheetBoundary, sheetListing}
+use Rattle.outcomes.specs.Entries.{sheetNumbers, sheetPosition, sheetWrite, sheetOwnerSets, sheetOwners, sheetBoundary, sheetListing}
 
--- An entry, with what is asked of it besides the bytes: the boundary entry is asked for a polygon by its number.
+-- An entry, with what is asked of it besides the bytes: the position entry is asked in a mode, the boundary entry for a polygon by its number.
 pub data Entry : Type 0 where
   numbers : Entry
+  position : (mode : ℕ) → Entry
   write : Entry
   ownerSets : Entry
   owners : Entry
@@ -16,6 +17,7 @@ pub data Entry : Type 0 where
 -- What the entry comes to for the bytes that it is given.
 abbrev pub outcomeOf : Entry → List ℕ → Outcome
 outcomeOf numbers s = sheetNumbers s
+outcomeOf (position mode) s = sheetPosition mode s
 outcomeOf write s = sheetWrite s
 outcomeOf ownerSets s = sheetOwnerSets s
 outcomeOf owners s = sheetOwners s
@@ -25,6 +27,7 @@ outcomeOf listing s = sheetListing s
 -- The room of an entry: lent so many bytes, it never answers 40.
 abbrev pub roomOf : Entry → ℕ
 roomOf numbers = 65_800
+roomOf (position mode) = 16
 roomOf write = 158_290
 roomOf ownerSets = 8_192
 roomOf owners = 1_024

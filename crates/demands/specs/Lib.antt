@@ -2,6 +2,7 @@
 -- entries go by.
 pub mod Refusals
 pub mod Entries
+pub mod Positions
 pub mod Triangles
 pub mod Polygons
 pub mod Answers

@@ -52,7 +52,15 @@ fn boundary(input: &[u8], lent: &mut [u8]) -> u64 {
     sheets::sheet_boundary(&input[4..], number(input, 0) as u32, lent)
 }
 
-// What the entry answers: 0 numbers, 1 write, 2 owner sets, 3 owners, 4 boundary, 5 listing. Any other answers 255, a code that no entry gives.
+// What the position entry answers; the mode stands before the sheet, as a little-endian u32.
+fn position(input: &[u8], lent: &mut [u8]) -> u64 {
+    if input.len() < 4 {
+        return 255;
+    }
+    sheets::sheet_position(&input[4..], number(input, 0) as u32, lent)
+}
+
+// What the entry answers: 0 numbers, 1 write, 2 owner sets, 3 owners, 4 boundary, 5 listing, 6 position. Any other answers 255, a code that no entry gives.
 fn answer(entry: u8, input: &[u8], lent: &mut [u8]) -> u64 {
     match entry {
         0 => sheets::sheet_numbers(input, lent),
@@ -61,6 +69,7 @@ fn answer(entry: u8, input: &[u8], lent: &mut [u8]) -> u64 {
         3 => sheets::sheet_owners(input, lent),
         4 => boundary(input, lent),
         5 => sheets::sheet_listing(input, lent),
+        6 => position(input, lent),
         _ => 255,
     }
 }

@@ -39,17 +39,17 @@ use Rattle.judged.proofs.Stages.{checked, polygons-value, sheet-value, 
 pub sheet-is : (r : Reading) (n : ℕ) → readOf r ≡ Read n → (n ≡ length (r .numbers)) × (r .code ≡ 0)
 sheet-is r n = go (eqb (r .code) 0) refl
   where
-    go : (b : Bool) → eqb (r .code) 0 ≡ b → cond b (Read (length (r .numbers))) (Refused (r .code) (r .item)) ≡ Read n → (n ≡ length (r .numbers)) × (r .code ≡ 0)
+    go : (b : Bool) → eqb (r .code) 0 ≡ b → cond b (Read (length (r .numbers))) (Refused (r .code) (r .item) (r .position)) ≡ Read n → (n ≡ length (r .numbers)) × (r .code ≡ 0)
     go true q e = (cc, eqb-true (r .code) 0 q)
     go false q e = absurd (let z : _≡_ {A = ℕ} 0 1 = cc in omega arith)
 
 -- A refusal of reading, and so of the bytes.
-module _ (s : List ℕ) (code item : ℕ) (e : readOf (readingOf members s) ≡ Refused code item) where
+module _ (s : List ℕ) (code item field : ℕ) (e : readOf (readingOf members s) ≡ Refused code item field) where
   pub refusal-is : readSheet members s ≡ refused code item
   unfolding readSheet
   refusal-is = go (eqb (readingOf members s .code) 0) e
     where
-      go : (b : Bool) → cond b (Read (length (readingOf members s .numbers))) (Refused (readingOf members s .code) (readingOf members s .item)) ≡ Refused code item
+      go : (b : Bool) → cond b (Read (length (readingOf members s .numbers))) (Refused (readingOf members s .code) (readingOf members s .item) (readingOf members s .position)) ≡ Refused code item field
           → cond b (made (sheetIn (map millimetres (readingOf members s .numbers)))) (refused (readingOf members s .code) (readingOf members s .item)) ≡ refused code item
       go true e = absurd (let z : _≡_ {A = ℕ} 0 1 = cc e in omega arith)
       go false e = cc

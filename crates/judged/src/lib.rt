@@ -61,7 +61,7 @@ pub fn judged(sheet: &[u8], numbers: &mut [u32], opposite: &mut [usize], sets: &
     ensures { λ r. ⌜ JudgedAs (now (sheet .entry)) r (now (numbers .exit)) (now (opposite .exit)) (now (sets .exit)) ⌝ }
 {
     match sheet::read(sheet, MEMBERS, numbers) {
-        Ending::Refused(code, item) => Owning::Refused(code, item),
+        Ending::Refused(code, item, _) => Owning::Refused(code, item),
         Ending::Sheet(n) => judge(&numbers[..n], opposite, sets),
     }
 }

@@ -1,4 +1,5 @@
 -- The laws of what the entries come to.
 pub mod Outcomes
+pub mod Position
 pub mod Judged
 pub mod Sized

@@ -27,8 +27,8 @@ held-all (h ∷ l) = ap (λ m. heldBytes h ++ m) (held-all l)
 
 module _ (s : List ℕ) where
   -- A reading that is refused is the outcome.
-  pub numbers-unread : (code item : ℕ) → readOf (readingOf members s) ≡ Refused code item → sheetNumbers s ≡ refused code item
-  numbers-unread code item e = ap (λ r. andThen r formOutcome) (refusal-is s code item e)
+  pub numbers-unread : (code item field : ℕ) → readOf (readingOf members s) ≡ Refused code item field → sheetNumbers s ≡ refused code item
+  numbers-unread code item field e = ap (λ r. andThen r formOutcome) (refusal-is s code item field e)
 
   -- A sheet that is read comes to its numbers as they are held, four bytes each.
   pub numbers-read : All (λ b. b < 256) s → (n : ℕ) → readOf (readingOf members s) ≡ Sheet n → sheetNumbers s ≡ bytes (4 * n) (flatMap heldBytes (readingOf members s .numbers))

@@ -1,18 +1,20 @@
 -- What each entry comes to, by what is asked of it.
-use mathlib.Core.Bool.{Bool, _&&_}
-use mathlib.Core.List.{List, map, flatMap}
-use Prim.Native.Nat.{ℕ}
-use lib.Dec.{leb}
+use mathlib.Core.Bool.{Bool, _&&_, cond}
+use mathlib.Core.List.{List, _++_, map, flatMap}
+use Prim.Native.Nat.{ℕ, _+_, _*_}
+use lib.Dec.{leb, eqb}
 use lib.ListN.{length}
 use Rattle.plane.specs.Points.{Edge}
-use Rattle.lent.specs.Stages.{andThen, needing}
+use Rattle.lent.specs.Stages.{value, refused, andThen, needing}
 use Rattle.lent.specs.Answered.{Outcome, bytes}
+use Rattle.lent_little.specs.Ordered
 use Rattle.lent_little.specs.Bytes.{i32, sideBytes}
 use Rattle.lent_sets.specs.Sets.{setsOutcome}
 use Rattle.owners_marks.specs.Marks.{setOf}
 use Rattle.repair_sides.specs.Sides.{boundarySides, trianglesOwned}
 use Rattle.repair_answers.specs.Answers.{numbersAfter}
 use Rattle.sheet_form.specs.Numbers.{Sheet, members, numbersOf}
+use Rattle.sheet.specs.Reading.{readingOf}
 use Rattle.sheet.specs.Read.{readSheet}
 use Rattle.sheet_written.specs.Given.{sheetGiven, writeOutcome}
 use Rattle.judged.specs.Judged.{Judged, judgedSheet, repairOf}
@@ -32,6 +34,25 @@ formOutcome n = bytes (length (formOf n)) (formOf n)
 abbrev pub sheetNumbers : List ℕ → Outcome
 sheetNumbers s = andThen (readSheet members s) formOutcome
 
+-- ---- where in the file
+-- The number that an entry answers where enough bytes are lent.
+abbrev pub withRoom : Outcome → ℕ
+withRoom (value w) = w .item * 256
+withRoom (refused code item) = item * 256 + code
+
+-- An answer and a byte position, each as a little-endian u64; the item is the number of bytes.
+abbrev pub u64 : ℕ → List ℕ
+u64 n = Ordered.bytes 8 n
+
+abbrev pub telling : ℕ → ℕ → Outcome
+telling answer position = bytes 16 (u64 answer ++ u64 position)
+
+-- sheet_position: the answer of the numbers entry with room enough, and the byte position of the field at fault, 0 where the sheet is read. In a mode
+-- that is not 0 the answer told is 57, and the position 0.
+abbrev pub sheetPosition : ℕ → List ℕ → Outcome
+sheetPosition mode s = cond (eqb mode 0) (telling (withRoom (sheetNumbers s)) (readingOf members s .position)) (telling 57 0)
+
+-- ---- writing
 -- sheet_write: the normal bytes of the sheet that the numbers give, else 42.
 abbrev pub sheetWrite : List ℕ → Outcome
 sheetWrite s = writeOutcome (sheetGiven members s)

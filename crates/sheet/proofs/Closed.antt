@@ -37,7 +37,7 @@ Inside c (Geometry kind n d) = ⊥
 Inside c (Ring n d) = Nearer c d
 Inside c (Point x y d) = Nearer c d
 Inside c (End d) = ⊥
-Inside c (Refused code item d) = code ≡ 0 → ⊥
+Inside c (Refused code item field d) = code ≡ 0 → ⊥
 
 -- ---- a ring's count
 ring-some : (c : Cursor) (n : ℕ) → ringFits c n ≡ true → 0 < n
@@ -75,10 +75,10 @@ point-nearer c l = go (c .rings + (c .points - 1)) refl
 -- ---- a step
 pub step-inside : (s : List ℕ) (c : Cursor) → 0 < c .rings + c .points → Inside c (stepAt s c)
 step-inside s c o = by-case (Inside c) s c (record {
-  refused = named-some;
+  refused = λ code field t f. named-some code t;
   point = λ p l. point-nearer c p;
   ring = λ p r l n f. ring-nearer c n (ring-some c n f);
-  end = λ p r t. absurd (omega arith);
+  end = λ due. absurd (omega (arith, due .0, due .1));
   geometry = λ p r t l little kind n k f. omega arith;
 })
 
@@ -92,14 +92,14 @@ module _ (s : List ℕ) (c : Cursor) (b : Build) (a : Step) (r : Turn) (o : 0 < 
       go (Ring n x) k l = subst (Nearer c) (sym (l .0)) k
       go (Point p q x) k l = subst (Nearer c) (sym (l .0)) k
       go (End x) k l = absurd k
-      go (Refused code item x) k l = absurd l
+      go (Refused code item field x) k l = absurd l
 
-  pub stops-inside : (code item : ℕ) → r ≡ Over code item → code ≡ 0 → ⊥
-  stops-inside code item q = is-refused (stepAt s c) b code item (go (stepAt s c) (step-inside s c o)) (rw (← e, ← q) h)
+  pub stops-inside : (code item field : ℕ) → r ≡ Over code item field → code ≡ 0 → ⊥
+  stops-inside code item field q = is-refused (stepAt s c) b code item field (go (stepAt s c) (step-inside s c o)) (rw (← e, ← q) h)
     where
       go : (a : Step) → Inside c a → Goes a
       go (Geometry kind n x) k = absurd k
       go (Ring n x) k = tt
       go (Point p q x) k = tt
       go (End x) k = absurd k
-      go (Refused code item x) k = k
+      go (Refused code item field x) k = k

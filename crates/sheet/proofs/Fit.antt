@@ -154,10 +154,10 @@ module _ {limit : ℕ} (s : List ℕ) (c : Cursor) (b : Taken) (h : Sized limit 
   turn-good : Good limit (turn s c b)
   unfolding turn taken judged
   turn-good = by-case (Led limit c b) s c (record {
-    refused = λ code t e. absurd (named-some code t e);
+    refused = λ code field t f e. absurd (named-some code t e);
     point = λ p l. go p (coordinateOf (doubleAt (c .little) s (c .at))) (coordinateOf (doubleAt (c .little) s (c .at + 8)));
     ring = λ p r l n f. ring-sized c n b p r (passed f) h;
-    end = λ p r t. (λ e. at-most c (length (b .numbers)) r h, λ e. absurd (omega arith));
+    end = λ due. (λ l e. at-most c (length (b .numbers)) (due .1) h, λ l e. absurd (omega arith));
     geometry = λ p r t l little kind n k f. opened-sized c little kind n p r (slotOf c) b (slot-at c) (passed (ap not t)) (passed f) h;
   })
     where

@@ -39,14 +39,14 @@ Opens c (Geometry kind n d) = (little : Bool) × (d ≡ opened (slotOf c) c litt
 Opens c (Ring n d) = ⊥
 Opens c (Point x y d) = ⊥
 Opens c (End d) = ⊥
-Opens c (Refused code item d) = code ≡ 0 → ⊥
+Opens c (Refused code item field d) = code ≡ 0 → ⊥
 
 pub step-opens : (s : List ℕ) (depth : ℕ) (c : Cursor) → Begins depth c → Opens c (stepAt s c)
 step-opens s depth c h = by-case (Opens c) s c (record {
-  refused = named-some;
+  refused = λ code field t f. named-some code t;
   point = λ p l. let z = h .no-points in omega arith;
   ring = λ p r l n f. let z = h .no-rings in omega arith;
-  end = λ p r t. absurd (true≢false (sym t ∙ h .more));
+  end = λ due. absurd (true≢false (sym (due .2) ∙ h .more));
   geometry = λ p r t l little kind n k f. (little, refl, k, f);
 })
 
@@ -251,7 +251,7 @@ opens-goes c (Geometry kind n d) o = tt
 opens-goes c (Ring n d) o = absurd o
 opens-goes c (Point x y d) o = absurd o
 opens-goes c (End d) o = absurd o
-opens-goes c (Refused code item d) o = o
+opens-goes c (Refused code item field d) o = o
 
 pub stands-goes : (s : List ℕ) (depth : ℕ) (c : Cursor) → Begins depth c → Goes (stepAt s c)
 stands-goes s depth c h = opens-goes c (stepAt s c) (step-opens s depth c h)
@@ -272,14 +272,14 @@ module _ (s : List ℕ) (depth : ℕ) (c : Cursor) (b : Build) (a : Step) (r : T
       go (Ring n x) o k t = absurd o
       go (Point p y x) o k t = absurd o
       go (End x) o k t = absurd o
-      go (Refused code item x) o k t = absurd k
+      go (Refused code item field x) o k t = absurd k
 
 -- Behind the polygon or the row that was opened at d, a turn is behind the geometry.
 module _ {depth : ℕ} {c : Cursor} {n : ℕ} {d : Cursor} (h : Holds depth c n d) where
   pub past-polygon : 0 < d .rings → (r : Turn) → To (closed d) r → Past c r
   past-polygon l (On e b) k = h .polygon l e k
-  past-polygon l (Over code item) k = tt
+  past-polygon l (Over code item field) k = tt
 
   pub past-row : d .rings ≡ 0 → (r : Turn) → To (behindAll n d) r → Past c r
   past-row z (On e b) k = h .last z e k
-  past-row z (Over code item) k = tt
+  past-row z (Over code item field) k = tt

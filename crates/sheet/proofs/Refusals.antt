@@ -42,7 +42,7 @@ Fine limit (Geometry kind n d) = Names limit d
 Fine limit (Ring n d) = Names limit d
 Fine limit (Point x y d) = Names limit d
 Fine limit (End d) = Unit {0}
-Fine limit (Refused code item d) = Lawful limit code item
+Fine limit (Refused code item field d) = Lawful limit code item
 
 -- ---- the places that are reached
 renewed-member : {limit : ℕ} (c : Cursor) → Names limit c → Names limit (renewed c)
@@ -64,10 +64,10 @@ opened-member {limit} Member c little kind n t h =
 step-fine : {limit : ℕ} (s : List ℕ) (c : Cursor) → Names limit c → Fine limit (stepAt s c)
 unfolding withPoints afterPoint
 step-fine {limit} s c h = by-case (Fine limit) s c (record {
-  refused = λ code t. lawful limit code (c .member) t (h .1);
+  refused = λ code field t f. lawful limit code (c .member) t (h .1);
   point = λ p l. renewed-member _ h;
   ring = λ p r l n f. h;
-  end = λ p r t. (tt, tt);
+  end = λ due. (λ e. tt, λ l. tt);
   geometry = λ p r t l little kind n k f. opened-member (slotOf c) c little kind n (passed f) h;
 })
 
@@ -90,7 +90,7 @@ turn-good {limit} s c b h = go (stepAt s c) (step-fine s c h)
     go (Ring n d) f = f
     go (Point x y d) f = point d f (coordinateOf x) (coordinateOf y)
     go (End d) f = tt
-    go (Refused code item d) f = f
+    go (Refused code item field d) f = f
 
 run-lawful : {limit : ℕ} (n : ℕ) (s : List ℕ) (c : Cursor) (b : Taken) → Names limit c → Lawful limit (run n s c b .code) (run n s c b .item)
 unfolding run

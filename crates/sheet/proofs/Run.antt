@@ -24,16 +24,20 @@ use Rattle.sheet.specs.Reading.{Taken, Reading, Turn, on, over, noted, j
 use Rattle.sheet.specs.Going.{reading}
 
 -- ---- a step goes forward, within the bytes
--- The next place is a field or more ahead, and within the bytes.
-abbrev pub Ahead : List ℕ → Cursor → Cursor → Type 0
-Ahead s c c′ = (c .at + 4 ≤ c′ .at) × (c′ .at ≤ length s)
+-- The next place is so many bytes ahead, and within the bytes: 9 for a header, 4 for a ring's count, 16 for a point.
+abbrev pub AheadBy : ℕ → List ℕ → Cursor → Cursor → Type 0
+AheadBy n s c c′ = (c′ .at ≡ c .at + n) × (c′ .at ≤ length s)
 
 abbrev pub Moved : List ℕ → Cursor → Step → Type 0
-Moved s c (Geometry kind n c′) = Ahead s c c′
-Moved s c (Ring n c′) = Ahead s c c′
-Moved s c (Point x y c′) = Ahead s c c′
+Moved s c (Geometry kind n c′) = AheadBy 9 s c c′
+Moved s c (Ring n c′) = AheadBy 4 s c c′
+Moved s c (Point x y c′) = AheadBy 16 s c c′
 Moved s c (End c′) = Unit {0}
-Moved s c (Refused code item c′) = Unit {0}
+Moved s c (Refused code item field c′) = Unit {0}
+
+-- It is a field or more ahead.
+abbrev pub Ahead : List ℕ → Cursor → Cursor → Type 0
+Ahead s c c′ = (c .at + 4 ≤ c′ .at) × (c′ .at ≤ length s)
 
 pub renewed-at : (c : Cursor) → renewed c .at ≡ c .at
 unfolding renewed
@@ -53,19 +57,19 @@ opened-at Member c little kind n =
 pub step-moved : (s : List ℕ) (c : Cursor) → Moved s c (stepAt s c)
 unfolding withPoints afterPoint
 step-moved s c = by-case (Moved s c) s c (record {
-  refused = λ code t. tt;
-  point = λ p l. let e = renewed-at (pointsToCome (c .points - 1) (moved 16 c)) in (omega arith, omega arith);
-  ring = λ p r l n f. (omega arith, l);
-  end = λ p r t. (tt, tt);
-  geometry = λ p r t l little kind n k f. let e = opened-at (slotOf c) c little kind n in (omega arith, omega arith);
+  refused = λ code field t f. tt;
+  point = λ p l. let e = renewed-at (pointsToCome (c .points - 1) (moved 16 c)) in (e, omega arith);
+  ring = λ p r l n f. (refl, l);
+  end = λ due. (λ e. tt, λ l. tt);
+  geometry = λ p r t l little kind n k f. let e = opened-at (slotOf c) c little kind n in (e, omega arith);
 })
 
 -- ---- a turn goes forward too
-abbrev Goes : List ℕ → Cursor → Turn → Type 0
+abbrev pub Goes : List ℕ → Cursor → Turn → Type 0
 Goes s c (on c′ b) = Ahead s c c′
 Goes s c (over r) = Unit {0}
 
-turn-moved : (s : List ℕ) (c : Cursor) (b : Taken) → Goes s c (turn s c b)
+pub turn-moved : (s : List ℕ) (c : Cursor) (b : Taken) → Goes s c (turn s c b)
 unfolding turn taken judged
 turn-moved s c b = go (stepAt s c) (step-moved s c)
   where
@@ -75,11 +79,11 @@ turn-moved s c b = go (stepAt s c) (step-moved s c)
     point c′ h (Whole x) (Whole y) = by-cond (Goes s c) (eqb (c .points) 1 && not (eqb x (noted x y b .x) && eqb y (noted x y b .y))) _ _ (λ t. tt) h
 
     go : (a : Step) → Moved s c a → Goes s c (taken c b a)
-    go (Geometry kind n c′) h = h
-    go (Ring n c′) h = h
-    go (Point x y c′) h = point c′ h (coordinateOf x) (coordinateOf y)
+    go (Geometry kind n c′) h = (omega arith, h .1)
+    go (Ring n c′) h = (omega arith, h .1)
+    go (Point x y c′) h = point c′ ((omega arith, h .1)) (coordinateOf x) (coordinateOf y)
     go (End c′) h = tt
-    go (Refused code item c′) h = tt
+    go (Refused code item field c′) h = tt
 
 -- ---- enough steps
 -- As many steps as there are bytes from the place on, and one.

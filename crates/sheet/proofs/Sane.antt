@@ -23,7 +23,7 @@ Kept (Geometry kind n c) = (n ≤ offset) × Sane c
 Kept (Ring n c) = (n ≤ 4096) × Sane c
 Kept (Point x y c) = Sane c
 Kept (End c) = Unit {0}
-Kept (Refused code item c) = Unit {0}
+Kept (Refused code item field c) = Unit {0}
 
 count-small : (limit : ℕ) (slot : Slot) (n : ℕ) → limit ≤ offset → T (countFits limit slot n) → n ≤ offset
 unfolding countFits
@@ -71,9 +71,9 @@ ring-small c n t = go (eqb (c .member) 1) t
 pub step-kept : (s : List ℕ) (c : Cursor) → Sane c → Kept (stepAt s c)
 unfolding withPoints afterPoint
 step-kept s c h = by-case Kept s c (record {
-  refused = λ code t. tt;
+  refused = λ code field t f. tt;
   point = λ p l. renewed-sane _ (record { polygons = h .polygons; members = h .members; limit = h .limit });
   ring = λ p r l n f. (ring-small c n (passed f), record { polygons = h .polygons; members = h .members; limit = h .limit });
-  end = λ p r t. (tt, tt);
+  end = λ due. (λ e. tt, λ l. tt);
   geometry = λ p r t l little kind n k f. (count-small (c .limit) (slotOf c) n (h .limit) (passed f), opened-sane (slotOf c) c little kind n (passed f) h);
 })

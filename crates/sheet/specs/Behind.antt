@@ -67,8 +67,8 @@ After false c d = counts d ≡ counts (behind c)
 -- Where reading goes on, it goes on with the counts of d; it goes on behind the geometry at c.
 abbrev pub To : Cursor → Turn → Type 0
 To d (On e b) = counts e ≡ counts d
-To d (Over code item) = Unit {0}
+To d (Over code item field) = Unit {0}
 
 abbrev pub Past : Cursor → Turn → Type 0
 Past c (On e b) = After (eqb (c .member) 0) c e
-Past c (Over code item) = Unit {0}
+Past c (Over code item field) = Unit {0}

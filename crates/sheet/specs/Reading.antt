@@ -13,7 +13,7 @@ use Rattle.wkb_kinds.specs.declared.Slot.{Slot}
 use Rattle.wkb_kinds.specs.declared.Slot.the-variants.{Sheet, Table, Piece, Part, Member}
 use Rattle.wkb.specs.declared.Step.{Step}
 use Rattle.wkb.specs.declared.Step.the-variants.{Geometry, Ring, Point, End, Refused}
-use Rattle.wkb.specs.Steps.{codeOf, itemOf, start, refusal, slotOf, stepAt}
+use Rattle.wkb.specs.Steps.{codeOf, itemOf, positionOf, start, refusal, slotOf, stepAt}
 
 -- What was read so far: the numbers, where the number of the open member's polygons stands among them, whether the open ring's first
 -- point is still to come, and that point.
@@ -106,15 +106,16 @@ pointing c x y b =
     cond (lastOfTable c) (push (held (c .members)) b″) b″
 
 -- ---- reading
--- How reading ends: code 0 and the sheet's numbers, or a refusal with the numbers so far.
+-- How reading ends: code 0 and the sheet's numbers, or a refusal with the byte position of the field at fault and the numbers so far.
 pub record Reading : Type 0 where
   pub code : ℕ
   pub item : ℕ
+  pub position : ℕ
   pub numbers : List ℕ
 
--- It ends with the answer of a step: document 01's number and item of that answer.
+-- It ends with the answer of a step: document 01's number and item of that answer, and its position.
 abbrev pub ended : Step → Taken → Reading
-ended a b = record { code = codeOf a; item = itemOf a; numbers = b .numbers }
+ended a b = record { code = codeOf a; item = itemOf a; position = positionOf a; numbers = b .numbers }
 
 -- Reading goes on from a place with what was taken, or is over.
 pub data Turn : Type 0 where
@@ -125,12 +126,12 @@ pub data Turn : Type 0 where
 abbrev pub differs : Cursor → ℕ → ℕ → Taken → Bool
 differs c x y b = closing c && not (eqb x (noted x y b .x) && eqb y (noted x y b .y))
 
--- A point at c is judged as it comes, c′ being the next place: 5 where a double is not a coordinate, then 6 where the ring's last point
--- differs from its first.
+-- A point at c is judged as it comes, c′ being the next place: 5 at the first double that is not a coordinate, y being 8 bytes behind x, then 6 at the
+-- point where it is the ring's last and differs from its first.
 unfoldable pub judged : Cursor → Cursor → Taken → Coordinate → Coordinate → Turn
-judged c c′ b Not q = over (ended (refusal 5 c) b)
-judged c c′ b (Whole x) Not = over (ended (refusal 5 c) b)
-judged c c′ b (Whole x) (Whole y) = cond (differs c x y b) (over (ended (refusal 6 c) b)) (on c′ (pointing c x y b))
+judged c c′ b Not q = over (ended (refusal 5 (c .at) c) b)
+judged c c′ b (Whole x) Not = over (ended (refusal 5 (c .at + 8) c) b)
+judged c c′ b (Whole x) (Whole y) = cond (differs c x y b) (over (ended (refusal 6 (c .at) c) b)) (on c′ (pointing c x y b))
 
 -- What the answer of a step at c adds, c′ being the next place. The end and a refusal end reading.
 unfoldable pub taken : Cursor → Taken → Step → Turn
@@ -138,7 +139,7 @@ taken c b (Geometry kind n c′) = on c′ (opening (slotOf c) c c′ kind n b)
 taken c b (Ring n c′) = on c′ (ringing c n b)
 taken c b (Point x y c′) = judged c c′ b (coordinateOf x) (coordinateOf y)
 taken c b (End c′) = over (ended (End c′) b)
-taken c b (Refused code item c′) = over (ended (Refused code item c′) b)
+taken c b (Refused code item field c′) = over (ended (Refused code item field c′) b)
 
 -- One step, and what its answer adds.
 unfoldable pub turn : List ℕ → Cursor → Taken → Turn
@@ -146,7 +147,7 @@ turn s c b = taken c b (stepAt s c)
 
 -- Reading from a place on, by so many steps at most. Each step but the last goes forward, so the bytes that are left bound the steps.
 unfoldable pub run : ℕ → List ℕ → Cursor → Taken → Reading
-run zero s c b = ended (refusal 1 c) b
+run zero s c b = ended (refusal 1 (c .at) c) b
 run (suc n) s c b = elim (turn s c b) [ on c′ b′ ↦ run n s c′ b′ | over r ↦ r ]
 
 -- The reading of a sheet that may have so many members, the table among them: a step for each byte and one more are enough.

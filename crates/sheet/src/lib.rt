@@ -28,16 +28,16 @@ pub struct Build {
     pub y: u32,
 }
 
-// Reading goes on from a place, or is over with a code and an item.
+// Reading goes on from a place, or is over with a code, an item and the byte that the field at fault begins at.
 pub enum Turn {
     On(Cursor, Build),
-    Over(u32, u32),
+    Over(u32, u32, usize),
 }
 
-// How reading ends: with a sheet of so many numbers, or a refusal with its number and item.
+// How reading ends: with a sheet of so many numbers, or a refusal with its number, its item and the byte that the field at fault begins at.
 pub enum Ending {
     Sheet(usize),
-    Refused(u32, u32),
+    Refused(u32, u32, usize),
 }
 
 // Stores a number where there is room for it.
@@ -200,19 +200,19 @@ fn differs(c: Cursor, x: u32, y: u32, b: Build) -> bool
     y != begun.y
 }
 
-// A point is judged as it comes: 5 where a double is not a coordinate, then 6 where the ring's last point differs from its first.
+// A point is judged as it comes: 5 at the first double that is not a coordinate, then 6 where the ring's last point differs from its first.
 fn judged(c: Cursor, next: Cursor, b: Build, x: f64, y: f64, numbers: &mut [u32]) -> Turn
-    requires { ⌜ (c .members ≤ offset) × (b .fill + 3 < 2 ^ 64) ⌝ }
+    requires { ⌜ (c .members ≤ offset) × (c .at + 8 < 2 ^ 64) × (b .fill + 3 < 2 ^ 64) ⌝ }
     ensures { λ r. ⌜ Leads (Point x y next) b r × ((t : Taken) (out : List ℕ) → Shows out t b (now (numbers .entry)) → Turned out (Reading.judged c next t (coordinateOf x) (coordinateOf y)) r (now (numbers .exit))) ⌝ }
 {
     let Coordinate::Whole(h) = sheet_coordinate::judge(x) else {
-        return Turn::Over(5, c.member);
+        return Turn::Over(5, c.member, c.at);
     };
     let Coordinate::Whole(k) = sheet_coordinate::judge(y) else {
-        return Turn::Over(5, c.member);
+        return Turn::Over(5, c.member, c.at + 8);
     };
     if differs(c, h, k, b) {
-        return Turn::Over(6, c.member);
+        return Turn::Over(6, c.member, c.at);
     }
     Turn::On(next, pointing(c, h, k, b, numbers))
 }
@@ -237,8 +237,8 @@ fn taken(c: Cursor, b: Build, a: Step, numbers: &mut [u32]) -> Turn
         ),
         Step::Ring(n, next) => Turn::On(next, ringing(c, n, b, numbers)),
         Step::Point(x, y, next) => judged(c, next, b, x, y, numbers),
-        Step::End(_) => Turn::Over(0, 0),
-        Step::Refused(code, item, _) => Turn::Over(code, item),
+        Step::End(_) => Turn::Over(0, 0, 0),
+        Step::Refused(code, item, field, _) => Turn::Over(code, item, field),
     }
 }
 
@@ -250,14 +250,16 @@ fn rings(s: &[u8], from: Cursor, had: Build, numbers: &mut [u32]) -> Turn
     let mut c = from;
     let mut b = had;
     while 0 < c.rings || 0 < c.points {
-        let t = taken(c, b, c.step(s), numbers);
+        let told = c.step(s);
+        let a = told.step;
+        let t = taken(c, b, a, numbers);
         match t {
             Turn::On(next, more) => {
                 c = next;
                 b = more;
             }
-            Turn::Over(code, item) => {
-                return Turn::Over(code, item);
+            Turn::Over(code, item, field) => {
+                return Turn::Over(code, item, field);
             }
         }
     }
@@ -269,7 +271,8 @@ fn geometry(s: &[u8], c: Cursor, b: Build, depth: u32, numbers: &mut [u32]) -> T
     requires { ⌜ Within (now s) c b × Begins depth c ⌝ }
     ensures { λ r. ⌜ Follows (now (s .entry)) c b (now (numbers .entry)) (c .at + 1) r (now (numbers .exit)) × Past c r ⌝ }
 {
-    let a = c.step(s);
+    let told = c.step(s);
+    let a = told.step;
     let t = taken(c, b, a, numbers);
     let Turn::On(next, more) = t else {
         return t;
@@ -299,8 +302,8 @@ fn collection(s: &[u8], from: Cursor, had: Build, n: u32, depth: u32, numbers: &
                 c = next;
                 b = more;
             }
-            Turn::Over(code, item) => {
-                return Turn::Over(code, item);
+            Turn::Over(code, item, field) => {
+                return Turn::Over(code, item, field);
             }
         }
         left -= 1;
@@ -325,11 +328,13 @@ pub fn read(s: &[u8], limit: u32, numbers: &mut [u32]) -> Ending
     let t = geometry(s, Cursor::start(limit), b, 5, numbers);
     match t {
         Turn::On(c, more) => {
-            let Step::End(_) = c.step(s) else {
-                return Ending::Refused(7, 0);
+            let told = c.step(s);
+            let a = told.step;
+            let Step::End(_) = a else {
+                return Ending::Refused(7, 0, told.began);
             };
             Ending::Sheet(more.fill)
         }
-        Turn::Over(code, item) => Ending::Refused(code, item),
+        Turn::Over(code, item, field) => Ending::Refused(code, item, field),
     }
 }

@@ -1,6 +1,6 @@
 // The entries that both products call, on numbers and byte slices only. Each answers item × 256 + code, and only fills in what is asked.
 ghost use Rattle.lent.specs.Answered.{Answered};
-ghost use Rattle.outcomes.specs.Entries.{sheetNumbers, sheetWrite, sheetOwnerSets, sheetOwners, sheetBoundary, sheetListing};
+ghost use Rattle.outcomes.specs.Entries.{sheetNumbers, sheetPosition, sheetWrite, sheetOwnerSets, sheetOwners, sheetBoundary, sheetListing};
 use outcomes::Asked;
 use outcomes::Wanted;
 
@@ -10,6 +10,15 @@ pub extern "C" fn sheet_numbers(sheet: &[u8], out: &mut [u8]) -> u64
     ensures { λ r. ⌜ Answered (sheetNumbers (now (sheet .entry))) (now (out .entry)) r (now (out .exit)) ⌝ }
 {
     sheets_answers::numbers(sheet, out)
+}
+
+// Where in the file: the answer of sheet_numbers with room enough, and the byte position of the field at fault, each as a little-endian u64; the item
+// is 16.
+#[no_mangle]
+pub extern "C" fn sheet_position(sheet: &[u8], mode: u32, out: &mut [u8]) -> u64
+    ensures { λ r. ⌜ Answered (sheetPosition mode (now (sheet .entry))) (now (out .entry)) r (now (out .exit)) ⌝ }
+{
+    sheets_position::position(sheet, mode, out)
 }
 
 // The normal bytes of the sheet that the numbers give, as little-endian i32; the item is the number of bytes.

@@ -18,7 +18,7 @@ pub fn numbers(sheet: &[u8], out: &mut [u8]) -> u64
     let mut numbers = [0u32; 16450];
     let ending = sheet::read(sheet, MEMBERS, &mut numbers);
     match ending {
-        Ending::Refused(code, item) => item as u64 * 256 + code as u64,
+        Ending::Refused(code, item, _) => item as u64 * 256 + code as u64,
         Ending::Sheet(n) => {
             if out.len() / 4 < n {
                 return 40;

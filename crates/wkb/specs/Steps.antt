@@ -8,6 +8,7 @@ use Rattle.wkb.specs.declared.Cursor.{Cursor}
 use Rattle.wkb_kinds.specs.declared.Slot.{Slot}
 use Rattle.wkb_kinds.specs.declared.Slot.the-variants.{Sheet, Table, Piece, Part, Member}
 use Rattle.wkb.specs.declared.Step.{Step}
+use Rattle.wkb.specs.declared.Told.{Told}
 use Rattle.wkb.specs.declared.Step.the-variants.{Geometry, Ring, Point, End, Refused}
 use Rattle.wkb_kinds.specs.Kinds.{slotAt}
 use Rattle.wkb.specs.Places.{moved, naming, headerToCome, secondToCome, thirdToCome, fourthToCome, partsToCome, ringsToCome, ordered, pointsToCome, polygonsBegun, pointsCounted}
@@ -33,31 +34,40 @@ start limit = record {
   limit = limit;
 }
 
--- Document 01's number and item for each answer of a step; an answer that is no refusal has code 0.
+-- Document 01's number and item for each answer of a step, and the byte position of the field at fault; an answer that is no refusal has code 0
+-- and position 0.
 abbrev pub codeOf : Step → ℕ
 codeOf (Geometry kind count c) = 0
 codeOf (Ring count c) = 0
 codeOf (Point x y c) = 0
 codeOf (End c) = 0
-codeOf (Refused code item c) = code
+codeOf (Refused code item field c) = code
 
 abbrev pub itemOf : Step → ℕ
 itemOf (Geometry kind count c) = 0
 itemOf (Ring count c) = 0
 itemOf (Point x y c) = 0
 itemOf (End c) = 0
-itemOf (Refused code item c) = item
+itemOf (Refused code item field c) = item
 
--- A refusal names the member of the place, and the next place is the same place, where a step answers the same again.
-abbrev pub refusal : ℕ → Cursor → Step
-refusal code c = Refused code (c .member) c
+abbrev pub positionOf : Step → ℕ
+positionOf (Geometry kind count c) = 0
+positionOf (Ring count c) = 0
+positionOf (Point x y c) = 0
+positionOf (End c) = 0
+positionOf (Refused code item field c) = field
 
--- What follows where the test holds, else a refusal; and what follows where nothing is wrong, else a refusal with the code of what is.
-abbrev pub needing : Bool → ℕ → Cursor → Step → Step
-needing test code c next = cond test next (refusal code c)
+-- A refusal at a field names the member of the place and tells where the field begins, and the next place is the same place, where a step answers the
+-- same again.
+abbrev pub refusal : ℕ → ℕ → Cursor → Step
+refusal code field c = Refused code (c .member) field c
 
-abbrev pub unless : ℕ → Cursor → Step → Step
-unless code c next = cond (eqb code 0) next (refusal code c)
+-- What follows where the test of a field holds, else a refusal; and what follows where nothing is wrong with it, else a refusal with the code of what is.
+abbrev pub needing : Bool → ℕ → ℕ → Cursor → Step → Step
+needing test code field c next = cond test next (refusal code field c)
+
+abbrev pub unless : ℕ → ℕ → Cursor → Step → Step
+unless code field c next = cond (eqb code 0) next (refusal code field c)
 
 -- Which geometry stands at a place.
 unfoldable pub slotOf : Cursor → Slot
@@ -133,19 +143,19 @@ opened Piece c little kind n = withRings false n little (fewerParts c)
 opened Part c little kind n = withRings true n little (fewerParts c)
 opened Member c little kind n = cond (eqb kind 3) (withRings true n little (popped c)) (cond (eqb kind 6) (withParts n (popped c)) (withMembers c n (popped c)))
 
--- A geometry's header: its byte order is 0 or 1, its type may stand there, its count is within the limits.
+-- A geometry's header: its byte order is 0 or 1, its type, a byte further on, may stand there, its count, 5 bytes further on, is within the limits.
 unfoldable pub geometryAt : List ℕ → Cursor → Step
 geometryAt s c =
     let order : ℕ = getD s (c .at) 0 in
     let little : Bool = eqb order 1 in
     let kind : ℕ = wordAt little s (c .at + 1) in
     let count : ℕ = wordAt little s (c .at + 5) in
-    needing (remains s (c .at) 1) 1 c
-    (needing (ltb order 2) 2 c
-    (needing (remains s (c .at) 5) 1 c
-    (unless (kindFault (slotOf c) c kind) c
-    (needing (remains s (c .at) 9) 1 c
-    (needing (countFits (c .limit) (slotOf c) count) 4 c
+    needing (remains s (c .at) 1) 1 (c .at) c
+    (needing (ltb order 2) 2 (c .at) c
+    (needing (remains s (c .at) 5) 1 (c .at + 1) c
+    (unless (kindFault (slotOf c) c kind) (c .at + 1) c
+    (needing (remains s (c .at) 9) 1 (c .at + 5) c
+    (needing (countFits (c .limit) (slotOf c) count) 4 (c .at + 5) c
     (Geometry kind count (opened (slotOf c) c little kind count)))))))
 
 -- ---- a ring's count
@@ -160,8 +170,8 @@ withPoints n c = ringsToCome (c .rings - 1) (pointsToCome n (pointsCounted (cond
 unfoldable pub ringAt : List ℕ → Cursor → Step
 ringAt s c =
     let n : ℕ = wordAt (c .little) s (c .at) in
-    needing (remains s (c .at) 4) 1 c
-    (needing (ringFits c n) 4 c
+    needing (remains s (c .at) 4) 1 (c .at) c
+    (needing (ringFits c n) 4 (c .at) c
     (Ring n (withPoints n c)))
 
 -- ---- a point: two doubles, one field of 16 bytes
@@ -170,11 +180,11 @@ unfoldable pub afterPoint : Cursor → Cursor
 afterPoint c = renewed (pointsToCome (c .points - 1) (moved 16 c))
 
 unfoldable pub pointAt : List ℕ → Cursor → Step
-pointAt s c = needing (remains s (c .at) 16) 1 c (Point (doubleAt (c .little) s (c .at)) (doubleAt (c .little) s (c .at + 8)) (afterPoint c))
+pointAt s c = needing (remains s (c .at) 16) 1 (c .at) c (Point (doubleAt (c .little) s (c .at)) (doubleAt (c .little) s (c .at + 8)) (afterPoint c))
 
--- ---- nothing more is to come: the end, or 7 where bytes are left; a place past the bytes answers 1
+-- ---- nothing more is to come: the end, or 7 at the first byte that is left; a place past the bytes answers 1
 unfoldable pub endAt : List ℕ → Cursor → Step
-endAt s c = cond (ltb (c .at) (length s)) (Refused 7 0 c) (cond (eqb (c .at) (length s)) (End c) (refusal 1 c))
+endAt s c = cond (ltb (c .at) (length s)) (Refused 7 0 (c .at) c) (cond (eqb (c .at) (length s)) (End c) (refusal 1 (c .at) c))
 
 -- ---- a step
 -- A point of the open ring; else a ring of the open polygon; else the end, where nothing of the sheet is to come; else a geometry's header.
@@ -184,3 +194,7 @@ stepAt s c =
     (cond (ltb 0 (c .rings)) (ringAt s c)
     (cond (not (eqb (c .member) 0) && complete c) (endAt s c)
     (geometryAt s c)))
+
+-- A step also tells the byte position that it began at.
+abbrev pub toldAt : List ℕ → Cursor → Told
+toldAt s c = record { began = c .at; step = stepAt s c }

@@ -6,7 +6,7 @@ ghost use lib.Ieee.{binary64, ofBits};
 ghost use Rattle.lent_little.specs.Ordered.{numberOf, field, remains, wordAt, doubleAt};
 ghost use Rattle.lent_little.specs.Places.{placeOf};
 ghost use mathlib.Core.Bool.{true};
-ghost use Rattle.wkb.specs.Steps.{start, complete, renewed, countFits, popped, withRings, withParts, withMembers, withSheet, fewerParts, opened, refusal, geometryAt, ringFits, withPoints, ringAt, afterPoint, pointAt, endAt, stepAt};
+ghost use Rattle.wkb.specs.Steps.{start, complete, renewed, countFits, popped, withRings, withParts, withMembers, withSheet, fewerParts, opened, refusal, geometryAt, ringFits, withPoints, ringAt, afterPoint, pointAt, endAt, stepAt, toldAt};
 use wkb_kinds::Kind;
 use wkb_kinds::Slot;
 
@@ -39,13 +39,19 @@ pub struct Cursor {
 }
 
 // What a step answers, each with the next place: a geometry opened with its type and count, a ring with its count, a point with its two
-// doubles as they stand, the end, or a refusal with its number and item.
+// doubles as they stand, the end, or a refusal with its number, its item and the byte that the field at fault begins at.
 pub enum Step {
     Geometry(u32, u32, Cursor),
     Ring(u32, Cursor),
     Point(f64, f64, Cursor),
     End(Cursor),
-    Refused(u32, u32, Cursor),
+    Refused(u32, u32, usize, Cursor),
+}
+
+// A step's answer with the byte that the step began at.
+pub struct Told {
+    pub began: usize,
+    pub step: Step,
 }
 
 fn wide(b: u8) -> u64
@@ -291,10 +297,11 @@ impl Cursor {
         }
     }
 
-    fn refused(self, code: u32) -> Step
-        ensures { λ r. ⌜ r ≡ refusal code self ⌝ }
+    // A refusal at the field that begins at a byte.
+    fn refused(self, code: u32, field: usize) -> Step
+        ensures { λ r. ⌜ r ≡ refusal code field self ⌝ }
     {
-        Step::Refused(code, self.member, self)
+        Step::Refused(code, self.member, field, self)
     }
 
     // A geometry's header.
@@ -303,28 +310,28 @@ impl Cursor {
     {
         let at = self.at;
         if !remain(s, at, 1) {
-            return self.refused(1);
+            return self.refused(1, at);
         }
         let order = s[at];
         if 2 <= order {
-            return self.refused(2);
+            return self.refused(2, at);
         }
         if !remain(s, at, 5) {
-            return self.refused(1);
+            return self.refused(1, at + 1);
         }
         let little = order == 1;
         let kind = word(s, at + 1, little);
         let slot = Slot::standing(self.member, self.parts);
         let fault = wkb_kinds::fault(slot, kind, self.polygons, self.fourth);
         if fault != 0 {
-            return self.refused(fault);
+            return self.refused(fault, at + 1);
         }
         if !remain(s, at, 9) {
-            return self.refused(1);
+            return self.refused(1, at + 5);
         }
         let count = word(s, at + 5, little);
         if !count_fits(self.limit, slot, count) {
-            return self.refused(4);
+            return self.refused(4, at + 5);
         }
         Step::Geometry(kind, count, self.opened(slot, little, kind, count))
     }
@@ -365,11 +372,11 @@ impl Cursor {
     {
         let at = self.at;
         if !remain(s, at, 4) {
-            return self.refused(1);
+            return self.refused(1, at);
         }
         let n = word(s, at, self.little);
         if !self.ring_fits(n) {
-            return self.refused(4);
+            return self.refused(4, at);
         }
         Step::Ring(n, self.with_points(n))
     }
@@ -390,7 +397,7 @@ impl Cursor {
     {
         let at = self.at;
         if !remain(s, at, 16) {
-            return self.refused(1);
+            return self.refused(1, at);
         }
         let little = self.little;
         let x = double(s, at, little);
@@ -403,16 +410,16 @@ impl Cursor {
     {
         let at = self.at;
         if at < s.len() {
-            return Step::Refused(7, 0, self);
+            return Step::Refused(7, 0, at, self);
         }
         if at == s.len() {
             return Step::End(self);
         }
-        self.refused(1)
+        self.refused(1, at)
     }
 
-    // One step of reading, at any place and for any bytes.
-    pub fn step(self, s: &[u8]) -> Step
+    // What one step of reading answers: what is to come says which field is read.
+    fn answer(self, s: &[u8]) -> Step
         ensures { λ r. ⌜ r ≡ stepAt (now (s .entry)) self ⌝ }
     {
         if 0 < self.points {
@@ -425,6 +432,16 @@ impl Cursor {
             return self.end(s);
         }
         self.geometry(s)
+    }
+
+    // One step of reading, at any place and for any bytes.
+    pub fn step(self, s: &[u8]) -> Told
+        ensures { λ r. ⌜ r ≡ toldAt (now (s .entry)) self ⌝ }
+    {
+        Told {
+            began: self.at,
+            step: self.answer(s),
+        }
     }
 }
 

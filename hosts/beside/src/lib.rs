@@ -12,5 +12,6 @@ pub fn call(entry: Entry, input: &[u8], out: &mut [u8]) -> Result<u64, Refusal> 
         Entry::Owners => lent::owners(input, out),
         Entry::Boundary(polygon) => lent::boundary(input, polygon, out),
         Entry::Listing => lent::listing(input, out),
+        Entry::Position(mode) => lent::position(input, mode, out),
     }
 }

@@ -15,8 +15,9 @@ const LENT: u8 = 0xa7;
 pub unsafe extern "C" fn LLVMFuzzerTestOneInput(data: *const u8, size: usize) -> i32 {
     let input = if size == 0 { &[] } else { std::slice::from_raw_parts(data, size) };
     let asked = u32::from(input.last().copied().unwrap_or(0) % 5);
-    let entries = [Entry::Numbers, Entry::OwnerSets, Entry::Owners, Entry::Boundary(asked), Entry::Listing, Entry::Write];
-    let mut difference = entries.into_iter().find_map(|entry| compare(entry, input));
+    let reading = [Entry::Numbers, Entry::Position(0), Entry::Position(asked)];
+    let entries = [Entry::OwnerSets, Entry::Owners, Entry::Boundary(asked), Entry::Listing, Entry::Write];
+    let mut difference = reading.into_iter().chain(entries).find_map(|entry| compare(entry, input));
     if let Ok(numbers) = whole(Entry::Numbers, input) {
         difference = difference.or_else(|| compare(Entry::Write, &numbers.bytes));
     }

@@ -1,13 +1,14 @@
 //! Calls of the library that stands behind a bridge, a program on the other side of two pipes.
 //!
-//! A call is the frame u8 function (0 numbers, 1 write, 2 owner sets, 3 owners, 4 boundary, 5 listing, 6 verdict), u32 asked,
-//! u32 input length, u32 room, then the input, all little-endian. The bridge calls the entry with so much room, and answers
-//! u64 packed answer and exactly `room` bytes: the lent bytes after the call, where lent byte i was (i * 131 + 17) % 256
-//! before it.
+//! A call is the frame u8 function (0 numbers, 1 write, 2 owner sets, 3 owners, 4 boundary, 5 listing, 6 verdict, 7 position),
+//! u32 asked, a polygon or a mode, u32 input length, u32 room, then the input, all little-endian. The bridge calls the entry
+//! with so much room, and answers u64 packed answer and exactly `room` bytes: the lent bytes after the call, where lent byte i
+//! was (i * 131 + 17) % 256 before it.
 //!
 //! A room of 2^32 - 1 asks for the bridge's wrapper, whose room is its own. The bridge answers u64 packed answer, put
 //! together from what the wrapper says; u32 length; and so many bytes, the wrapper's value turned back to bytes, none for a
-//! refusal. The wrapper alone has a verdict: its item is 0 and its value one byte, 0 for clean and 1 for repair.
+//! refusal. The wrapper alone has a verdict: its item is 0 and its value one byte, 0 for clean and 1 for repair. A wrapper's
+//! position is that of mode 0.
 //!
 //! Frames may come without waiting for answers; a bridge that has no frame left to take must have flushed its answers.
 
@@ -17,19 +18,19 @@ use std::io::Read;
 use std::process::{Child, Command, Stdio};
 
 /// The functions' names, by the numbers that they have in a frame.
-pub const NAMES: [&str; 7] = ["numbers", "write", "owner sets", "owners", "boundary", "listing", "verdict"];
+pub const NAMES: [&str; 8] = ["numbers", "write", "owner sets", "owners", "boundary", "listing", "verdict", "position"];
 
 /// What is called.
 #[derive(Clone, Copy, PartialEq, Eq, Debug)]
 pub enum Function {
-    /// An entry, with the polygon that is asked for.
+    /// An entry, with the polygon or the mode that is asked for.
     Entry(Entry),
     /// A wrapper's verdict.
     Verdict,
 }
 
 impl Function {
-    /// The function's number in a frame, and the polygon asked for.
+    /// The function's number in a frame, and the polygon or the mode asked for.
     fn numbers(self) -> (usize, u32) {
         match self {
             Function::Entry(Entry::Numbers) => (0, 0),
@@ -39,6 +40,7 @@ impl Function {
             Function::Entry(Entry::Boundary(asked)) => (4, asked),
             Function::Entry(Entry::Listing) => (5, 0),
             Function::Verdict => (6, 0),
+            Function::Entry(Entry::Position(mode)) => (7, mode),
         }
     }
 
@@ -84,6 +86,14 @@ impl Call {
     /// The packed answer.
     pub fn packed(&self) -> u64 {
         self.expected.as_ref().map_or_else(|refusal| packed(*refusal), |success| success.item * 256)
+    }
+
+    /// The code of the answer; where a position is told, the code that is told with it.
+    pub fn code(&self) -> u64 {
+        match (self.function, &self.expected) {
+            (Function::Entry(Entry::Position(_)), Ok(success)) => u64::from(success.bytes[0]),
+            _ => self.packed() % 256,
+        }
     }
 
     /// What stands for the call in a message.

@@ -13,6 +13,7 @@ pub mod fields;
 mod ground;
 mod large;
 mod numbers;
+mod positions;
 mod reading;
 mod repair;
 mod rules;
@@ -38,6 +39,7 @@ pub fn all() -> Vec<Case> {
         repair::cases,
         large::cases,
         numbers::cases,
+        positions::cases,
     ];
     groups.iter().for_each(|group| group(&mut cases));
     cases.0
@@ -70,6 +72,14 @@ mod tests {
     /// The packed answer of an entry with all the room it wants, and what it writes.
     fn answered(entry: Entry, input: &[u8]) -> (u64, Option<Vec<u8>>) {
         answer(entry, input, usize::MAX)
+    }
+
+    /// What the position entry tells in mode 0: a packed answer and a position.
+    fn positioned(input: &[u8]) -> (u64, u64) {
+        let told = whole(Entry::Position(0), input).unwrap();
+        let number = |at: usize| u64::from_le_bytes(told.bytes[at..at + 8].try_into().unwrap());
+        assert_eq!((told.item, told.bytes.len()), (16, 16));
+        (number(0), number(8))
     }
 
     /// Every entry that judges refuses so, one that reads only where reading does; and the listing says it.
@@ -107,6 +117,10 @@ mod tests {
                 answered(Entry::Owners, input) == (256 * numbers.len() as u64, Some(numbers.clone()))
             }
             Outcome::Refused(code, item) => is_refused(input, Refusal::new(*code, *item)),
+            Outcome::Unread(code, item, position) => {
+                let refusal = Refusal::new(*code, *item);
+                is_refused(input, refusal) && positioned(input) == (packed(refusal), *position)
+            }
             Outcome::Written => is_written(input),
             Outcome::NotWritten => answered(Entry::Write, input) == (42, None),
         }
@@ -133,6 +147,29 @@ mod tests {
             let same = cases[..place].iter().find(|other| other.input == case.input && other.outcome == case.outcome);
             assert!(same.is_none(), "{} is {}", case.name, same.unwrap().name);
         }
+    }
+
+    #[test]
+    fn a_position_comes_with_the_answer_of_the_numbers_entry() {
+        let sheets = all().into_iter().filter(Case::is_sheet).map(|case| (case.name, case.input));
+        for (name, input) in sheets.chain(fields::spoiled()) {
+            let (told, position) = positioned(&input);
+            assert_eq!(told, answered(Entry::Numbers, &input).0, "{name}");
+            assert!(position <= input.len() as u64 && (position == 0 || (1..=8).contains(&(told % 256))), "{name}");
+        }
+    }
+
+    #[test]
+    fn a_position_has_16_bytes_and_modes_above_0_are_unknown() {
+        let strip = named("strip");
+        let told = |answer: u64| Some([answer, 0].map(u64::to_le_bytes).concat());
+        for (mode, right) in [(0, 304 * 256), (1, 57), (2, 57), (7, 57), (256, 57), (u32::MAX, 57)] {
+            let with = |room: usize| answer(Entry::Position(mode), &strip, room);
+            assert_eq!([0, 1, 15].map(with), [(40, None), (40, None), (40, None)]);
+            assert_eq!([16, 17].map(with), [(16 * 256, told(right)), (16 * 256, told(right))]);
+        }
+        assert_eq!(answer(Entry::Position(1), &strip[..300], 16), (16 * 256, told(57)));
+        assert_eq!(answer(Entry::Position(0), &[], 15), (40, None));
     }
 
     #[test]

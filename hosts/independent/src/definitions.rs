@@ -5,6 +5,7 @@ use crate::cases::{self, Case};
 use crate::generate::generate;
 use crate::ownership::{judge, judge_sheet, member_double_area, Judged, PointsInside};
 use crate::plane::{double_area, sides};
+use crate::reading::{read_or_fault, Fault};
 use crate::repair::{boundary_sides, repair};
 use crate::table::{frame, Table};
 use crate::{reading, Member, Point, Refusal, Side, Triangle};
@@ -214,4 +215,37 @@ fn repair_and_areas_agree_on_small_sheets() {
         }
     }
     assert!(sheets > 3_000, "{sheets} sheets");
+}
+
+/// The bytes of the field at fault from its position on.
+fn length_at_fault(code: u8, in_y: bool) -> usize {
+    match code {
+        2 => 1,
+        3 | 4 | 8 => 4,
+        5 if in_y => 8,
+        5 | 6 => 16,
+        _ => 0,
+    }
+}
+
+/// Nothing before the position is at fault: the bytes before it are a sheet's for 7, and else end where the field at fault
+/// begins, or in the middle of a point whose y it is. Nothing behind the field matters.
+#[test]
+fn positions_are_those_of_the_first_fault() {
+    let mut times = BTreeMap::new();
+    for (name, input) in inputs() {
+        let Err(fault @ Fault { refusal: Refusal { code, item }, position }) = read_or_fault(&input) else { continue };
+        let before = read_or_fault(&input[..position]).err();
+        let begins = |at: usize| Some(Fault { refusal: Refusal::new(1, item), position: at });
+        let in_y = code == 5 && before != begins(position);
+        let right = if code == 7 { None } else { begins(if in_y { position - 8 } else { position }) };
+        assert_eq!(before, right, "{name}");
+        let through = &input[..position + length_at_fault(code, in_y)];
+        if !matches!(code, 1 | 7) {
+            assert_eq!(read_or_fault(through), Err(fault), "{name}");
+            assert_eq!(read_or_fault(&[through, &[255; 40]].concat()), Err(fault), "{name}");
+        }
+        *times.entry((code, in_y)).or_insert(0) += 1;
+    }
+    assert!(times.len() == 9 && times.values().all(|count| *count > 20), "{times:?}");
 }

@@ -20,6 +20,8 @@ pub enum Entry {
     Boundary(u32),
     /// The printed listing, which answers no refusal but 40.
     Listing,
+    /// Where reading stops, in the mode of this number; it answers no refusal but 40.
+    Position(u32),
 }
 
 /// What an entry would write if enough bytes were lent, and the item of its success.
@@ -84,8 +86,20 @@ impl<'a> Input<'a> {
             Entry::Owners => owners(self.judged()?),
             Entry::Boundary(asked) => boundary(self.judged()?, asked),
             Entry::Listing => Ok(counted(listing::of(self.judged()).into_bytes())),
+            Entry::Position(mode) => Ok(position(self.bytes, mode)),
         }
     }
+}
+
+/// The packed answer that the numbers entry gives with room enough, 57 in a mode that isn't known, and the position of the
+/// field at fault for its refusals, 0 for any other answer.
+fn position(bytes: &[u8], mode: u32) -> Success {
+    let (answer, position) = match (mode, reading::read_or_fault(bytes)) {
+        (0, Ok(sheet)) => (counted(writing::numbers(&sheet)).item * 256, 0),
+        (0, Err(fault)) => (packed(fault.refusal), fault.position as u64),
+        _ => (packed(Refusal::new(57, 0)), 0),
+    };
+    counted([answer, position].map(u64::to_le_bytes).concat())
 }
 
 /// A success whose item is the number of bytes.

@@ -1,4 +1,5 @@
-//! From bytes to a sheet in numbers, with refusals 1 to 8, left to right and stopping at the first fault.
+//! From bytes to a sheet in numbers, with refusals 1 to 8, left to right and stopping at the first fault, whose position is
+//! told with it.
 
 use crate::{limits, Part, Point, Refusal, Ring, Sheet, Triangle};
 
@@ -13,9 +14,26 @@ pub const TIN: u32 = 16;
 /// The type number of a Triangle.
 pub const TRIANGLE: u32 = 17;
 
+/// Why a sheet can't be read, and where: the position of the field at fault, counted from 0 at the first byte. It is that of
+/// the field's first byte, which is the number of bytes where none of the field is there; of a point that isn't given in
+/// coordinates it is that of its x, or of its y if x is a coordinate; of an unclosed ring that of its last point; and of
+/// bytes after the sheet that of their first.
+#[derive(Clone, Copy, PartialEq, Eq, Debug)]
+pub struct Fault {
+    /// Code and item.
+    pub refusal: Refusal,
+    /// The position.
+    pub position: usize,
+}
+
 /// Reads a whole sheet, or gives the first refusal.
 pub fn read(bytes: &[u8]) -> Result<Sheet, Refusal> {
-    let mut reader = Reader { bytes, place: 0, member: 0, points: 0 };
+    read_or_fault(bytes).map_err(|fault| fault.refusal)
+}
+
+/// Reads a whole sheet, or gives the first fault.
+pub fn read_or_fault(bytes: &[u8]) -> Result<Sheet, Fault> {
+    let mut reader = Reader { bytes, place: 0, field_at: 0, member: 0, points: 0 };
     let order = reader.byte_order()?;
     reader.kind(order, &[COLLECTION])?;
     let members = reader.count(order, limits::SHEET_MEMBERS)?;
@@ -28,7 +46,7 @@ pub fn read(bytes: &[u8]) -> Result<Sheet, Refusal> {
         sheet.polygons.push(parts);
     }
     if reader.place < bytes.len() {
-        return Err(Refusal::new(7, 0));
+        return Err(Fault { refusal: Refusal::new(7, 0), position: reader.place });
     }
     Ok(sheet)
 }
@@ -45,21 +63,29 @@ enum Order {
     Little,
 }
 
-/// The bytes with the reading place, the member being read, and the sheet's running total of polygon points.
+/// The bytes with the reading place, where the field read last begins, the member being read, and the sheet's running total
+/// of polygon points.
 struct Reader<'a> {
     bytes: &'a [u8],
     place: usize,
+    field_at: usize,
     member: u64,
     points: usize,
 }
 
 impl Reader<'_> {
-    fn refuse<T>(&self, code: u8) -> Result<T, Refusal> {
-        Err(Refusal::new(code, self.member))
+    /// A fault of the field read last.
+    fn refuse<T>(&self, code: u8) -> Result<T, Fault> {
+        self.refuse_at(code, self.field_at)
+    }
+
+    fn refuse_at<T>(&self, code: u8, position: usize) -> Result<T, Fault> {
+        Err(Fault { refusal: Refusal::new(code, self.member), position })
     }
 
     /// The next field, or 1 if fewer bytes remain than it needs.
-    fn field<const N: usize>(&mut self) -> Result<[u8; N], Refusal> {
+    fn field<const N: usize>(&mut self) -> Result<[u8; N], Fault> {
+        self.field_at = self.place;
         let Some(field) = self.bytes[self.place..].first_chunk::<N>() else {
             return self.refuse(1);
         };
@@ -68,7 +94,7 @@ impl Reader<'_> {
     }
 
     /// A byte order: 1, then 2.
-    fn byte_order(&mut self) -> Result<Order, Refusal> {
+    fn byte_order(&mut self) -> Result<Order, Fault> {
         match self.field::<1>()? {
             [0] => Ok(Order::Big),
             [1] => Ok(Order::Little),
@@ -76,7 +102,7 @@ impl Reader<'_> {
         }
     }
 
-    fn number(&mut self, order: Order) -> Result<u32, Refusal> {
+    fn number(&mut self, order: Order) -> Result<u32, Fault> {
         let field = self.field::<4>()?;
         Ok(match order {
             Order::Big => u32::from_be_bytes(field),
@@ -85,7 +111,7 @@ impl Reader<'_> {
     }
 
     /// A type: 1, then 3.
-    fn kind(&mut self, order: Order, allowed: &[u32]) -> Result<u32, Refusal> {
+    fn kind(&mut self, order: Order, allowed: &[u32]) -> Result<u32, Fault> {
         let kind = self.number(order)?;
         if allowed.contains(&kind) {
             Ok(kind)
@@ -95,7 +121,7 @@ impl Reader<'_> {
     }
 
     /// A count: 1, then 4.
-    fn count(&mut self, order: Order, (from, to): (u32, u32)) -> Result<u32, Refusal> {
+    fn count(&mut self, order: Order, (from, to): (u32, u32)) -> Result<u32, Fault> {
         let count = self.number(order)?;
         if (from..=to).contains(&count) {
             Ok(count)
@@ -104,8 +130,8 @@ impl Reader<'_> {
         }
     }
 
-    /// A point, one field of 16 bytes: 1, then 5.
-    fn point(&mut self, order: Order) -> Result<Point, Refusal> {
+    /// A point, one field of 16 bytes: 1, then 5 of x, then 5 of y.
+    fn point(&mut self, order: Order) -> Result<Point, Fault> {
         let field = self.field::<16>()?;
         let double = |at: usize| {
             let bytes: [u8; 8] = field[at..at + 8].try_into().unwrap();
@@ -116,12 +142,13 @@ impl Reader<'_> {
         };
         match (coordinate(double(0)), coordinate(double(8))) {
             (Some(x), Some(y)) => Ok(Point { x, y }),
-            _ => self.refuse(5),
+            (None, _) => self.refuse(5),
+            (Some(_), None) => self.refuse_at(5, self.field_at + 8),
         }
     }
 
     /// The points of a ring whose count was read; after the last one, 6.
-    fn ring(&mut self, order: Order, count: u32) -> Result<Ring, Refusal> {
+    fn ring(&mut self, order: Order, count: u32) -> Result<Ring, Fault> {
         let mut ring = Vec::with_capacity(count as usize);
         for _ in 0..count {
             ring.push(self.point(order)?);
@@ -134,7 +161,7 @@ impl Reader<'_> {
     }
 
     /// Member 1, the triangle table.
-    fn table(&mut self) -> Result<Vec<Triangle>, Refusal> {
+    fn table(&mut self) -> Result<Vec<Triangle>, Fault> {
         let order = self.byte_order()?;
         self.kind(order, &[TIN])?;
         let count = self.count(order, limits::TRIANGLES)?;
@@ -142,7 +169,7 @@ impl Reader<'_> {
     }
 
     /// A piece of the table, of type 17 or 3.
-    fn piece(&mut self) -> Result<Triangle, Refusal> {
+    fn piece(&mut self) -> Result<Triangle, Fault> {
         let order = self.byte_order()?;
         self.kind(order, &[TRIANGLE, POLYGON])?;
         self.count(order, limits::PIECE_RINGS)?;
@@ -153,7 +180,7 @@ impl Reader<'_> {
 
     /// A geometry at or below a further member, its polygons put after `parts`. A collection standing here has
     /// this depth. At the type field 3 comes first, then 8 for a collection, 4 for the 65th polygon.
-    fn geometry(&mut self, allowed: &[u32], depth: u32, parts: &mut Vec<Part>) -> Result<(), Refusal> {
+    fn geometry(&mut self, allowed: &[u32], depth: u32, parts: &mut Vec<Part>) -> Result<(), Fault> {
         let order = self.byte_order()?;
         match self.kind(order, allowed)? {
             POLYGON if parts.len() == limits::POLYGONS_UNDER_MEMBER => self.refuse(4),
@@ -169,7 +196,7 @@ impl Reader<'_> {
     }
 
     /// The count and the members of an inner collection, or the parts of a MultiPolygon.
-    fn members(&mut self, order: Order, allowed: &[u32], depth: u32, parts: &mut Vec<Part>) -> Result<(), Refusal> {
+    fn members(&mut self, order: Order, allowed: &[u32], depth: u32, parts: &mut Vec<Part>) -> Result<(), Fault> {
         for _ in 0..self.count(order, limits::INNER_MEMBERS)? {
             self.geometry(allowed, depth, parts)?;
         }
@@ -177,13 +204,13 @@ impl Reader<'_> {
     }
 
     /// The rings of a polygon.
-    fn part(&mut self, order: Order) -> Result<Part, Refusal> {
+    fn part(&mut self, order: Order) -> Result<Part, Fault> {
         let rings = self.count(order, limits::RINGS)?;
         (0..rings).map(|_| self.polygon_ring(order)).collect()
     }
 
     /// A polygon's ring, its count tested alone and then with the sheet's running total.
-    fn polygon_ring(&mut self, order: Order) -> Result<Ring, Refusal> {
+    fn polygon_ring(&mut self, order: Order) -> Result<Ring, Fault> {
         let count = self.count(order, limits::RING_POINTS)?;
         self.points += count as usize;
         if self.points > limits::SHEET_POINTS {

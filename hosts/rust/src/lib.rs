@@ -14,6 +14,7 @@ extern "C" {
     fn sheet_owners(sheet: *const u8, sheet_len: usize, out: *mut u8, out_len: usize) -> u64;
     fn sheet_boundary(sheet: *const u8, sheet_len: usize, polygon: u32, out: *mut u8, out_len: usize) -> u64;
     fn sheet_listing(sheet: *const u8, sheet_len: usize, out: *mut u8, out_len: usize) -> u64;
+    fn sheet_position(sheet: *const u8, sheet_len: usize, mode: u32, out: *mut u8, out_len: usize) -> u64;
 }
 
 /// Room that is always enough for the numbers form of a sheet.
@@ -28,6 +29,8 @@ pub const OWNERS_ROOM: usize = 1_024;
 pub const BOUNDARY_ROOM: usize = 49_152;
 /// Room that is always enough for the listing of a sheet.
 pub const LISTING_ROOM: usize = 6_600;
+/// Room for the position of a sheet's fault, with the answer that it belongs to.
+pub const POSITION_ROOM: usize = 16;
 
 /// Free stack that a calling thread needs, in bytes.
 pub const STACK: usize = 524_288;
@@ -54,6 +57,11 @@ fn told(line: &'static str, code: u8) -> Option<(&'static str, &'static str)> {
 }
 
 impl Refusal {
+    /// Is it a refusal of reading, codes 1 to 8, whose [`position`] can be asked for?
+    pub fn of_reading(&self) -> bool {
+        (1..=8).contains(&self.code)
+    }
+
     /// The refusal in words.
     pub fn sentence(&self) -> String {
         let Some((item, sentence)) = REFUSALS.lines().find_map(|line| told(line, self.code)) else {
@@ -78,13 +86,17 @@ impl fmt::Display for Refusal {
 
 impl std::error::Error for Refusal {}
 
-/// Calls an entry with lent bytes, and answers the item with them.
-fn call(lent: &mut [u8], entry: impl FnOnce(*mut u8, usize) -> u64) -> Result<u64, Refusal> {
-    let answer = entry(lent.as_mut_ptr(), lent.len());
+/// What a packed answer says: its item, or a refusal.
+fn unpacked(answer: u64) -> Result<u64, Refusal> {
     match (answer & 255) as u8 {
         0 => Ok(answer >> 8),
         code => Err(Refusal { code, item: answer >> 8 }),
     }
+}
+
+/// Calls an entry with lent bytes, and answers the item with them.
+fn call(lent: &mut [u8], entry: impl FnOnce(*mut u8, usize) -> u64) -> Result<u64, Refusal> {
+    unpacked(entry(lent.as_mut_ptr(), lent.len()))
 }
 
 /// The entries on bytes as they stand: the answer is written over the front of the lent bytes, whose others keep their values; the item is answered.
@@ -115,6 +127,10 @@ pub mod lent {
     /// The listing; the item is its bytes.
     pub fn listing(sheet: &[u8], out: &mut [u8]) -> Result<u64, Refusal> {
         call(out, |p, n| unsafe { sheet_listing(sheet.as_ptr(), sheet.len(), p, n) })
+    }
+    /// The packed answer of reading in this mode, of which 0 is the only one, and the position of the field at fault, 8 bytes each; the item is 16.
+    pub fn position(sheet: &[u8], mode: u32, out: &mut [u8]) -> Result<u64, Refusal> {
+        call(out, |p, n| unsafe { sheet_position(sheet.as_ptr(), sheet.len(), mode, p, n) })
     }
 }
 
@@ -170,6 +186,23 @@ pub fn listing(sheet: &[u8]) -> String {
     let bytes = lent::listing(sheet, &mut out).expect("the room is enough for every listing") as usize;
     out.truncate(bytes);
     String::from_utf8(out).expect("a listing is ASCII")
+}
+
+/// What reading comes to, and where it stops.
+#[derive(Clone, Copy, Debug, PartialEq, Eq)]
+pub struct Position {
+    /// The length of the numbers form in bytes, or why the sheet can't be read.
+    pub answer: Result<u64, Refusal>,
+    /// For a refusal the position of the field at fault, counted in bytes from 0; 0 where the sheet is read.
+    pub byte: u64,
+}
+
+/// Where in its bytes a sheet can't be read.
+pub fn position(sheet: &[u8]) -> Position {
+    let mut out = [0; POSITION_ROOM];
+    lent::position(sheet, 0, &mut out).expect("the room is enough for every position");
+    let number = |at: usize| u64::from_le_bytes(out[at..at + 8].try_into().unwrap());
+    Position { answer: unpacked(number(0)), byte: number(8) }
 }
 
 /// What a sheet is found to be.

@@ -1,5 +1,5 @@
 //! The safe functions on the example sheets, whose listings are stored beside them.
-use sheets::{boundary, lent, listing, numbers, owner_sets, owners, verdict, write, Refusal, Verdict};
+use sheets::{boundary, lent, listing, numbers, owner_sets, owners, position, verdict, write, Position, Refusal, Verdict};
 
 fn example(name: &str) -> Vec<u8> {
     std::fs::read(format!("{}/../../examples/{name}", env!("CARGO_MANIFEST_DIR"))).unwrap()
@@ -49,10 +49,38 @@ fn each_refusal_says_what_it_is_about() {
         numbers(&sheet[..600]).unwrap_err().to_string(),
         "the bytes end too early for the next field of member 1, the triangle table (code 1, item 1)"
     );
-    let codes = [1, 2, 3, 4, 5, 6, 7, 8, 10, 11, 12, 20, 21, 30, 40, 41, 42];
+    let codes = [1, 2, 3, 4, 5, 6, 7, 8, 10, 11, 12, 20, 21, 30, 40, 41, 42, 57];
     let sentences: std::collections::BTreeSet<String> = codes.iter().map(|&code| Refusal { code, item: 7 }.sentence()).collect();
     assert_eq!(sentences.len(), codes.len());
     assert!(sentences.iter().all(|sentence| !sentence.contains("has no refusal")));
+    let of_reading = codes.into_iter().filter(|&code| Refusal { code, item: 7 }.of_reading());
+    assert_eq!(of_reading.collect::<Vec<u8>>(), [1, 2, 3, 4, 5, 6, 7, 8]);
+}
+
+#[test]
+fn a_position_comes_with_what_reading_answers() {
+    let sheet = example("strip.wkb");
+    assert_eq!(position(&sheet), Position { answer: Ok(304), byte: 0 });
+    assert_eq!(position(&example("not-carried.wkb")).byte, 0);
+    let cut = Position { answer: Err(Refusal { code: 1, item: 3 }), byte: 804 };
+    assert_eq!(position(&sheet[..819]), cut);
+    assert_eq!(cut.answer, numbers(&sheet[..819]).map(|numbers| 4 * numbers.len() as u64));
+    assert_eq!(position(&[&sheet[..], &[0]].concat()), Position { answer: Err(Refusal { code: 7, item: 0 }), byte: 820 });
+    assert_eq!(position(&[]), Position { answer: Err(Refusal { code: 1, item: 0 }), byte: 0 });
+}
+
+#[test]
+fn a_position_is_told_in_16_bytes_by_mode() {
+    let sheet = &example("strip.wkb")[..819];
+    let mut lent = [9; 17];
+    assert_eq!(lent::position(sheet, 0, &mut lent[..15]), Err(Refusal { code: 40, item: 0 }));
+    assert_eq!(lent, [9; 17]);
+    assert_eq!(lent::position(sheet, 0, &mut lent), Ok(16));
+    assert_eq!(lent, [1, 3, 0, 0, 0, 0, 0, 0, 36, 3, 0, 0, 0, 0, 0, 0, 9]);
+    for mode in [1, 7, 256, u32::MAX] {
+        assert_eq!(lent::position(sheet, mode, &mut lent), Ok(16));
+        assert_eq!(lent, [57, 0, 0, 0, 0, 0, 0, 0, 0, 0, 0, 0, 0, 0, 0, 0, 9]);
+    }
 }
 
 #[test]

@@ -17,6 +17,7 @@ fn the_header_defines_the_same() {
         ("OWNERS_ROOM", sheets::OWNERS_ROOM),
         ("BOUNDARY_ROOM", sheets::BOUNDARY_ROOM),
         ("LISTING_ROOM", sheets::LISTING_ROOM),
+        ("POSITION_ROOM", sheets::POSITION_ROOM),
         ("STACK", sheets::STACK),
         ("READ_CAP", sheets::READ_CAP),
     ];

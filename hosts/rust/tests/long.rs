@@ -1,5 +1,5 @@
 //! What the library answers on the first READ_CAP bytes of a longer input is what it answers on all of it.
-use sheets::{listing, numbers, verdict, Refusal, Verdict, READ_CAP};
+use sheets::{listing, numbers, position, verdict, Refusal, Verdict, READ_CAP};
 
 const LONGEST: usize = 185_938;
 const FARTHEST: usize = 185_978;
@@ -43,6 +43,8 @@ fn the_longest_sheet_is_read_and_the_farthest_fault_is_seen() {
     assert_eq!((sheet.len(), verdict(&sheet)), (LONGEST, Verdict::Clean));
     assert_eq!((fault.len(), verdict(&fault)), (FARTHEST, Verdict::Refused(Refusal { code: 4, item: 65 })));
     assert_eq!(verdict(&fault[..FARTHEST - 1]), Verdict::Refused(Refusal { code: 1, item: 65 }));
+    assert_eq!([position(&fault).byte, position(&fault[..FARTHEST - 1]).byte], [FARTHEST as u64 - 4; 2]);
+    assert_eq!((position(&sheet).byte, position(&sheet[..LONGEST - 1]).byte), (0, LONGEST as u64 - 16));
 }
 
 #[test]
@@ -54,6 +56,7 @@ fn the_first_bytes_of_a_longer_input_are_enough() {
                 let input = [beginning.clone(), vec![byte; surplus]].concat();
                 let first = &input[..READ_CAP];
                 assert_eq!((numbers(&input), verdict(&input), listing(&input)), (numbers(first), verdict(first), listing(first)));
+                assert_eq!(position(&input), position(first));
             }
         }
     }

@@ -63,7 +63,7 @@ returns : tie.Need-returns
 returns c =
     let r = c .before .code .given in
     let d = c .before .before .before .before .before in
-    unread-is (bytes d) (r .0 .0) (r .0 .1 .0) (sym (d .read .ensures .0) ∙ r .1)
+    unread-is (bytes d) (r .0 .0) (r .0 .1 .0) (r .0 .1 .1 .0) (sym (d .read .ensures .0) ∙ r .1)
 
 returns-2 : tie.Need-returns-2
 returns-2 c =

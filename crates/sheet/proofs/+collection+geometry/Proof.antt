@@ -1,7 +1,7 @@
 -- `sheet::geometry` and `sheet::collection`, which call each other, meet their contracts. Reading on from where each call leads comes
 -- to what reading from its beginning does; behind a header are the rings of a polygon or a row of geometries, which the loop reads one by one.
 -- The remaining depth falls. Assumes nothing.
-use mathlib.Core.Path.{_≡_, refl, sym, _∙_, subst}
+use mathlib.Core.Path.{_≡_, refl, sym, _∙_, ap, subst}
 use native.Mathlib.Omega.{arith}
 use borrow.Author.Needs.{needs}
 use mathlib.Core.List.{List}
@@ -11,7 +11,7 @@ use Rattle.wkb.specs.declared.Cursor.{Cursor}
 use Rattle.sheet.specs.declared.Build.{Build}
 use Rattle.sheet.specs.Going.{Within, Ready}
 use Rattle.sheet.specs.Behind.{counts, behindAll, Row, Past}
-use Rattle.sheet.proofs.Onward.{ready, Trail, goes-on, follow, follow-over, any-turn, went-on, was-over, after}
+use Rattle.sheet.proofs.Onward.{answer, ready, Trail, goes-on, follow, follow-over, any-turn, went-on, was-over, after}
 use Rattle.sheet.proofs.Rows.{row-first, row-next, row-done}
 use Rattle.sheet.proofs.Opened.{Holds, stands-goes, goes-held, goes-nowhere, past-polygon, past-row}
 use Prim.Native.Nat.{ℕ, _+_, _*_, _≤_, _<_}
@@ -101,7 +101,7 @@ collection-returns :
     collection-Inv-loop
     collection-μ-loop
 collection-returns t c =
-    let w = was-over _ _ _ _ _ _ _ (c .before .before .before .before .before .geometry .ensures .0) _ _ (c .before .t2 .given .1) in
+    let w = was-over _ _ _ _ _ _ _ (c .before .before .before .before .before .geometry .ensures .0) _ _ _ (c .before .t2 .given .1) in
     ((w .0, follow-over (c .before .before .before .before .before .before .before .before .loop .inv .3) (w .1) .ends), tt)
 
 collection-sub-left :
@@ -176,7 +176,7 @@ geometry-taken-requires : (t : ℕ) → geometry-lts.Need-taken-requires (
   collection-below t,
   collection.Post,
 ) (geometry-at t) geometry.Post
-geometry-taken-requires t c κs = subst (Ready _ _) (sym (c .before .step .ensures)) (ready _ _ _ (omega arith) (c .before .before .before .before .pre .1 .0))
+geometry-taken-requires t c κs = subst (Ready _ _) (sym (ap answer (c .before .step .ensures))) (ready _ _ _ (omega arith) (c .before .before .before .before .pre .1 .0))
 
 geometry-enum-known-t : (t : ℕ) → geometry-lts.Need-enum-known-t (
   step-reads.Asked,
@@ -226,7 +226,7 @@ geometry-returns : (t : ℕ) → geometry-lts.Need-returns (
 ) (geometry-at t) geometry.Post
 geometry-returns t c =
     let p = c .before .before .before .before .before .before .before .before .before .pre .1 in
-    (any-turn _ _ _ _ _ _ _ (c .before .before .before .before .before .before .step .ensures) (c .before .before .before .before .taken .ensures) (p .0) (stands-goes _ _ _ (p .1)), subst (Past _) (sym (c .enum-told .given .1)) tt)
+    (any-turn _ _ _ _ _ _ _ (ap answer (c .before .before .before .before .before .before .step .ensures)) (c .before .before .before .before .taken .ensures) (p .0) (stands-goes _ _ _ (p .1)), subst (Past _) (sym (c .enum-told .given .1)) tt)
 
 geometry-enum-known-a : (t : ℕ) → geometry-lts.Need-enum-known-a (
   step-reads.Asked,
@@ -262,7 +262,7 @@ geometry-returns-2 : (t : ℕ) → geometry-lts.Need-returns-2 (
   collection-below t,
   collection.Post,
 ) (geometry-at t) geometry.Post
-geometry-returns-2 t c = absurd (goes-nowhere _ _ _ _ _ _ (c .before .before .before .before .before .before .before .before .step .ensures) (c .before .before .before .before .before .before .taken .ensures .0) (c .before .before .before .before .before .before .before .before .before .before .before .pre .1 .1) _ _ (c .before .before .t .given .1) (c .match2 .keys2))
+geometry-returns-2 t c = absurd (goes-nowhere _ _ _ _ _ _ (ap answer (c .before .before .before .before .before .before .before .before .step .ensures)) (c .before .before .before .before .before .before .taken .ensures .0) (c .before .before .before .before .before .before .before .before .before .before .before .pre .1 .1) _ _ (c .before .before .t .given .1) (c .match2 .keys2))
 
 -- After a geometry's header: reading goes on at the place behind it, which holds what the header says.
 module _ (t : ℕ) (d : geometry-lts.After-known-told2 (
@@ -293,12 +293,12 @@ module _ (t : ℕ) (d : geometry-lts.After-known-told2 (
   went : Within S D E × (C .at + 4 ≤ D .at)
       × Trail S C B (now (d .before .before .before .before .before .before .before .before .before .before .before .before .before .args .numbers)) D E (d .before .before .before .before .before .before .before .before .taken .last .1 .1 .1 .0)
   went =
-      goes-on _ _ _ _ _ _ _ (d .before .before .before .before .before .before .before .before .before .before .step .ensures) (d .before .before .before .before .before .before .before .before .taken .ensures) _ _ (d .before .before .before .before .t .given .1)
+      goes-on _ _ _ _ _ _ _ (ap answer (d .before .before .before .before .before .before .before .before .before .before .step .ensures)) (d .before .before .before .before .before .before .before .before .taken .ensures) _ _ (d .before .before .before .before .t .given .1)
       (d .before .before .before .before .before .before .before .before .before .before .before .before .before .pre .1 .0)
 
   holds : Holds (d .before .before .before .before .before .before .before .before .before .before .before .before .before .args .depth) C (d .before .a .given .0 .1 .0) D
   holds =
-      goes-held _ _ _ _ _ _ (d .before .before .before .before .before .before .before .before .before .before .step .ensures) (d .before .before .before .before .before .before .before .before .taken .ensures .0)
+      goes-held _ _ _ _ _ _ (ap answer (d .before .before .before .before .before .before .before .before .before .before .step .ensures)) (d .before .before .before .before .before .before .before .before .taken .ensures .0)
       (d .before .before .before .before .before .before .before .before .before .before .before .before .before .pre .1 .1) _ _ (d .before .before .before .before .t .given .1) _ _ _ (d .before .a .given .1)
 
 geometry-rings-requires : (t : ℕ) → geometry-lts.Need-rings-requires (

@@ -31,7 +31,7 @@ enum-told c = search needs
 
 returns : tie.Need-returns
 unfolding judged
-returns c = (λ e. omega arith, λ t out h. rw (x-not c) (refl, refl, h .laid-over))
+returns c = (λ e. omega arith, λ t out h. rw (x-not c) (refl, refl, refl, h .laid-over))
 
 judge-requires-2 : tie.Need-judge-requires-2
 judge-requires-2 c κs = search needs
@@ -42,16 +42,19 @@ enum-known-k c = search needs
 enum-told-2 : tie.Need-enum-told-2
 enum-told-2 c = search needs
 
+add-t11 : tie.Need-add-t11
+add-t11 c = search needs
+
 returns-2 : tie.Need-returns-2
 unfolding judged
-returns-2 c = (λ e. omega arith, λ t out h. rw (x-whole (c .before .before .before .before), y-not c) (refl, refl, h .laid-over))
+returns-2 c = (λ e. omega arith, λ t out h. rw (x-whole (c .before .before .before .before .before), y-not (c .before)) (refl, refl, refl, h .laid-over))
 
 differs-requires : tie.Need-differs-requires
 differs-requires c κs = search needs
 
 returns-3 : tie.Need-returns-3
 unfolding judged
-returns-3 c = (λ e. omega arith, λ t out h. rw (x-whole (c .before .before .before .before .before .before .before), y-whole (c .before .before .before), sym (c .before .differs .ensures t out _ h) ∙ c .if1 .taken) (refl, refl, h .laid-over))
+returns-3 c = (λ e. omega arith, λ t out h. rw (x-whole (c .before .before .before .before .before .before .before), y-whole (c .before .before .before), sym (c .before .differs .ensures t out _ h) ∙ c .if1 .taken) (refl, refl, refl, h .laid-over))
 
 pointing-requires : tie.Need-pointing-requires
 pointing-requires c κs = search needs
@@ -76,6 +79,7 @@ judged-spec =
     judge-requires-2
     enum-known-k
     enum-told-2
+    add-t11
     returns-2
     differs-requires
     returns-3

@@ -1,6 +1,6 @@
 -- `sheet::rings` meets its contract. The invariant: reading on from where the loop stands comes to what reading from its beginning does, and
 -- the loop stands in the polygon or behind it. The measure is what is left of the bytes. Assumes nothing.
-use mathlib.Core.Path.{_≡_, refl, sym, subst}
+use mathlib.Core.Path.{_≡_, refl, sym, ap, subst}
 use mathlib.Core.Logic.{⊎-elim}
 use Prim.Native.Nat.{_+_, _-_, _≤_, _<_}
 use native.Mathlib.Omega.{arith}
@@ -9,7 +9,7 @@ use borrow.Author.Tests.{ltb-true, ltb-false}
 use lib.ListN.{length}
 use Rattle.sheet.specs.Reading.{taken}
 use Rattle.sheet.specs.Going.{Within, Ready}
-use Rattle.sheet.proofs.Onward.{ready, Trail, goes-on, is-over, follow, follow-over}
+use Rattle.sheet.proofs.Onward.{answer, ready, Trail, goes-on, is-over, follow, follow-over}
 use Rattle.sheet.proofs.Closed.{Nearer, nearer, goes-nearer, stops-inside}
 use Rattle.sheet.proofs.rings.Statement.{statement}
 use Rattle.sheet.proofs.rings.Tie as tie
@@ -34,7 +34,7 @@ step-requires : tie.Need-step-requires Inv-loop μ-loop
 step-requires c κs = tt
 
 taken-requires : tie.Need-taken-requires Inv-loop μ-loop
-taken-requires c κs = subst (Ready _ _) (sym (c .before .step .ensures)) (ready _ _ _ (omega arith) (c .before .before .before .before .loop .inv .0))
+taken-requires c κs = subst (Ready _ _) (sym (ap answer (c .before .step .ensures))) (ready _ _ _ (omega arith) (c .before .before .before .before .loop .inv .0))
 
 enum-known-t : tie.Need-enum-known-t Inv-loop μ-loop
 enum-known-t c = search needs
@@ -42,7 +42,7 @@ enum-known-t c = search needs
 loop-less : tie.Need-loop-less Inv-loop μ-loop
 loop-less c =
     let l = c .before .before .before .before .before .before .before .before .before .before .loop in
-    let w = goes-on _ _ _ _ _ _ _ (c .before .before .before .before .before .before .before .step .ensures) (c .before .before .before .before .before .taken .ensures) _ _ (c .before .t .given .1) (l .inv .0) in
+    let w = goes-on _ _ _ _ _ _ _ (ap answer (c .before .before .before .before .before .before .before .step .ensures)) (c .before .before .before .before .before .taken .ensures) _ _ (c .before .t .given .1) (l .inv .0) in
     omega (arith, w .1, w .0 .inside)
 
 loop-again : tie.Need-loop-again Inv-loop μ-loop
@@ -51,12 +51,12 @@ loop-again c =
     let stepped = c .before .before .before .before .before .before .before in
     let l = stepped .before .before .before .loop in
     let some = to-come (stepped .before) in
-    let w = goes-on _ _ _ _ _ _ _ (stepped .step .ensures) taken _ _ (c .before .t .given .1) (l .inv .0) in (
+    let w = goes-on _ _ _ _ _ _ _ (ap answer (stepped .step .ensures)) taken _ _ (c .before .t .given .1) (l .inv .0) in (
       w .0,
       omega (arith, w .1, l .inv .1),
       search needs,
       follow (l .inv .3) (w .2),
-      nearer _ _ _ some (l .inv .4) (goes-nearer _ _ _ _ _ some (stepped .step .ensures) (taken .0) _ _ (c .before .t .given .1)),
+      nearer _ _ _ some (l .inv .4) (goes-nearer _ _ _ _ _ some (ap answer (stepped .step .ensures)) (taken .0) _ _ (c .before .t .given .1)),
     )
 
 enum-known-t-2 : tie.Need-enum-known-t-2 Inv-loop μ-loop
@@ -70,8 +70,8 @@ returns c =
     let taken = c .before .before .before .before .before .taken .ensures in
     let stepped = c .before .before .before .before .before .before .before in
     let l = stepped .before .before .before .loop in
-    let inside = stops-inside _ _ _ _ _ (to-come (stepped .before)) (stepped .step .ensures) (taken .0) _ _ (c .before .t2 .given .1) in
-    ((inside, follow-over (l .inv .3) (is-over _ _ _ _ _ _ _ (stepped .step .ensures) taken _ _ (c .before .t2 .given .1)) .ends), tt)
+    let inside = stops-inside _ _ _ _ _ (to-come (stepped .before)) (ap answer (stepped .step .ensures)) (taken .0) _ _ _ (c .before .t2 .given .1) in
+    ((inside, follow-over (l .inv .3) (is-over _ _ _ _ _ _ _ (ap answer (stepped .step .ensures)) taken _ _ _ (c .before .t2 .given .1)) .ends), tt)
 
 same-length-2 : tie.Need-same-length-2 Inv-loop μ-loop
 same-length-2 c = c .before .before .before .before .loop .inv .2

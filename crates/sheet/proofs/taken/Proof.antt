@@ -65,11 +65,11 @@ returns-3 c = rw (c .before .before .before .before .before .a3 .given .1) (c .b
 
 returns-4 : tie.Need-returns-4
 unfolding taken
-returns-4 c = rw (c .enum-told .given .1) (tt, λ t out h. (refl, refl, h .laid-over))
+returns-4 c = rw (c .enum-told .given .1) (tt, λ t out h. (refl, refl, refl, h .laid-over))
 
 returns-5 : tie.Need-returns-5
 unfolding taken
-returns-5 c = rw (c .before .a4 .given .1) (refl, λ t out h. (refl, refl, h .laid-over))
+returns-5 c = rw (c .before .a4 .given .1) (refl, λ t out h. (refl, refl, refl, h .laid-over))
 
 pub taken-spec : {M : Type 1} → statement M
 taken-spec =

@@ -20,6 +20,8 @@ use Rattle.wkb.specs.declared.Step.{Step}
 use Rattle.lent_little.specs.Ordered.{numberOf, bytesOf, field, remains, wordAt, doubleAt}
 use Rattle.wkb.specs.Standard.{Pair, order, encodePoint}
 use Rattle.wkb.specs.Steps.{slotOf, complete, kindFault, countFits, opened, geometryAt, ringFits, withPoints, ringAt, afterPoint, pointAt, endAt, stepAt}
+use Rattle.wkb.specs.Faults.{EndDue}
+use Rattle.wkb.proofs.Due.{at-point, at-ring, at-end, at-header}
 use Rattle.sheet.specs.Reading.{Taken, Reading, Turn, on, over, opening, ringing, noted, pointing, judged, taken, turn}
 use Rattle.sheet.specs.Going.{reading}
 use Rattle.sheet.proofs.Run.{reading-turns}
@@ -45,10 +47,6 @@ turned s c b = reading-turns s c b ∙ go (taken c b (stepAt s c))
     go (over r) = refl
 
 -- ---- a point
-at-point : (s : List ℕ) (c : Cursor) → 0 < c .points → stepAt s c ≡ pointAt s c
-unfolding stepAt
-at-point s c h = cond-yes _ _ (lt-ltb 0 (c .points) h)
-
 not-open : (n x y x′ y′ : ℕ) → (n ≡ 1 → (x ≡ x′) × (y ≡ y′)) → (eqb n 1 && not (eqb x x′ && eqb y y′)) ≡ false
 not-open n x y x′ y′ h = go (eqb n 1) (λ e. h (eqb-true n 1 e))
   where
@@ -121,14 +119,10 @@ point-back s c b bytes h code =
         }) k
 
 -- ---- a ring's count
-at-ring : (s : List ℕ) (c : Cursor) → c .points ≡ 0 → 0 < c .rings → stepAt s c ≡ ringAt s c
-unfolding stepAt
-at-ring s c p h = cond-no _ _ (le-ltb 0 (c .points) (omega arith)) ∙ cond-yes _ _ (lt-ltb 0 (c .rings) h)
-
 pub ring-goes : (s : List ℕ) (c : Cursor) (b : Taken) (n : ℕ) (rest : List ℕ) → c .points ≡ 0 → 0 < c .rings → Reads (c .little) 4 s (c .at) n rest
     → ringFits c n ≡ true → reading s c b ≡ reading s (withPoints n c) (ringing c n b)
 unfolding ringAt taken wordAt
-ring-goes s c b n rest p h r f = turned s c b ∙ rw (at-ring s c p h, le-leb (c .at + 4) (length s) (r .fits), r .number, f) refl
+ring-goes s c b n rest p h r f = turned s c b ∙ rw (at-ring s c (p, h), le-leb (c .at + 4) (length s) (r .fits), r .number, f) refl
 
 pub record RingRead (s : List ℕ) (c : Cursor) (b : Taken) : Type 0 where
   pub n : ℕ
@@ -147,24 +141,23 @@ ring-back s c b bytes p h code =
     record { n = wordAt (c .little) s (c .at); fits = l; bytes = written (c .little) 4 s (c .at) bytes l; allowed = f; on-with = k })
     (λ f k. absurd (omega arith)))
     (λ e k. absurd (omega arith))
-    (rw (turned s c b, at-ring s c p h) at code)
+    (rw (turned s c b, at-ring s c (p, h)) at code)
 
 -- ---- the end
-at-end : (s : List ℕ) (c : Cursor) → c .points ≡ 0 → c .rings ≡ 0 → 1 ≤ c .member → complete c ≡ true → stepAt s c ≡ endAt s c
-unfolding stepAt
-at-end s c p r m e = cond-no _ _ (le-ltb 0 (c .points) (omega arith)) ∙ cond-no _ _ (le-ltb 0 (c .rings) (omega arith)) ∙ rw (ne-eqb (c .member) 0 (λ q. absurd (omega arith)), e) refl
+end-due : (c : Cursor) → c .points ≡ 0 → c .rings ≡ 0 → 1 ≤ c .member → complete c ≡ true → EndDue c
+end-due c p r m e = (p, r, rw (ne-eqb (c .member) 0 (λ q. absurd (omega arith)), e) refl)
 
 pub end-goes : (s : List ℕ) (c : Cursor) (b : Taken) → c .points ≡ 0 → c .rings ≡ 0 → 1 ≤ c .member → complete c ≡ true → c .at ≡ length s
-    → reading s c b ≡ record { code = 0; item = 0; numbers = b .numbers }
+    → reading s c b ≡ record { code = 0; item = 0; position = 0; numbers = b .numbers }
 unfolding endAt taken
-end-goes s c b p r m e h = turned s c b ∙ rw (at-end s c p r m e, le-ltb (c .at) (length s) (omega arith), eq-eqb (c .at) (length s) h) refl
+end-goes s c b p r m e h = turned s c b ∙ rw (at-end s c (end-due c p r m e), le-ltb (c .at) (length s) (omega arith), eq-eqb (c .at) (length s) h) refl
 
 pub end-back : (s : List ℕ) (c : Cursor) (b : Taken) → c .points ≡ 0 → c .rings ≡ 0 → 1 ≤ c .member → complete c ≡ true → reading s c b .code ≡ 0 → c .at ≡ length s
 unfolding endAt taken
 end-back s c b p r m e code =
     by-equal (λ (t : Step). leads s (taken c b t) .code ≡ 0 → c .at ≡ length s) (ltb (c .at) (length s)) _ _ (λ f k. absurd (omega arith))
     (λ f. by-equal (λ (t : Step). leads s (taken c b t) .code ≡ 0 → c .at ≡ length s) (eqb (c .at) (length s)) _ _ (λ g k. eqb-true (c .at) (length s) g) (λ g k. absurd (omega arith)))
-    (rw (turned s c b, at-end s c p r m e) at code)
+    (rw (turned s c b, at-end s c (end-due c p r m e)) at code)
 
 -- ---- a geometry's header
 -- No point and no ring is to come, and not the end: a geometry.
@@ -173,10 +166,6 @@ pub record AtGeometry (c : Cursor) : Type 0 where
   pub no-rings : c .rings ≡ 0
   pub more : (not (eqb (c .member) 0) && complete c) ≡ false
 
-at-geometry : (s : List ℕ) (c : Cursor) → AtGeometry c → stepAt s c ≡ geometryAt s c
-unfolding stepAt
-at-geometry s c a = cond-no _ _ (le-ltb 0 (c .points) (omega arith)) ∙ cond-no _ _ (le-ltb 0 (c .rings) (omega arith)) ∙ cond-no _ _ (a .more)
-
 pub geometry-goes : (s : List ℕ) (c : Cursor) (b : Taken) (slot : Slot) (little : Bool) (kind n : ℕ) (rest : List ℕ) → AtGeometry c → slotOf c ≡ slot
     → Heads s (c .at) little kind n rest → kindFault slot c kind ≡ 0 → countFits (c .limit) slot n ≡ true
     → reading s c b ≡ reading s (opened slot c little kind n) (opening slot c (opened slot c little kind n) kind n b)
@@ -184,7 +173,7 @@ unfolding geometryAt taken
 geometry-goes s c b slot little kind n rest a e h f g =
     turned s c b
     ∙ rw (
-      at-geometry s c a,
+      at-header s c (a .no-points, a .no-rings, a .more),
       e,
       said-order (getD s (c .at) 0) little (h .first),
       h .kind-is,
@@ -243,4 +232,4 @@ geometry-back s c b bytes a code =
     (λ f k. absurd (omega arith)))
     (λ f k. absurd (omega arith)))
     (λ f k. absurd (omega arith))
-    (rw (turned s c b, at-geometry s c a) at code)
+    (rw (turned s c b, at-header s c (a .no-points, a .no-rings, a .more)) at code)

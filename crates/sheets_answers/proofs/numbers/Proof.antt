@@ -59,7 +59,7 @@ write-requires c κs = let k = c .before .before .before .before in (omega (arit
 returns-2 : tie.Need-returns-2
 returns-2 c =
     let r = c .before .before .before .before in
-    answered-refusal _ _ _ _ (numbers-unread (sheet r) _ _ (sym (r .read .ensures .0) ∙ c .before .ending .given .1))
+    answered-refusal _ _ _ _ (numbers-unread (sheet r) _ _ _ (sym (r .read .ensures .0) ∙ c .before .ending .given .1))
 
 returns-3 : tie.Need-returns-3
 returns-3 c =

@@ -1,7 +1,7 @@
 //! Calls the crate's safe functions as the frames of standard input say, for a program that has the library on the other
 //! side of a pipe. `independent::bridge` has the frames; every one asks for the functions' own room.
 
-use sheets::{boundary, listing, numbers, owner_sets, owners, verdict, write, Refusal, Verdict};
+use sheets::{boundary, listing, numbers, owner_sets, owners, position, verdict, write, Refusal, Verdict};
 use std::io::{BufRead, BufReader, Read, Write};
 
 /// The item and the value in bytes, or the refusal.
@@ -15,10 +15,10 @@ fn main() {
     let mut answers = Vec::new();
     while !frames.fill_buf().expect("frames can be read").is_empty() {
         let (item, value) = match answer(&mut frames) {
-            Ok((item, value)) => (item << 8, value),
-            Err(refusal) => (refusal.item << 8 | u64::from(refusal.code), Vec::new()),
+            Ok((item, value)) => (Ok(item), value),
+            Err(refusal) => (Err(refusal), Vec::new()),
         };
-        answers.extend(item.to_le_bytes());
+        answers.extend(packed(item).to_le_bytes());
         answers.extend((value.len() as u32).to_le_bytes());
         answers.extend(value);
         if frames.buffer().is_empty() {
@@ -51,8 +51,17 @@ fn answer(frames: &mut impl Read) -> Answer {
             Verdict::Repair => Ok((0, vec![1])),
             Verdict::Refused(refusal) => Err(refusal),
         },
+        7 => {
+            let position = position(&input);
+            Ok(counted([packed(position.answer), position.byte].map(u64::to_le_bytes).concat()))
+        }
         function => panic!("there is no function {function}"),
     }
+}
+
+/// The packed answer of an item or a refusal.
+fn packed(answer: Result<u64, Refusal>) -> u64 {
+    answer.map_or_else(|refusal| refusal.item << 8 | u64::from(refusal.code), |item| item << 8)
 }
 
 /// A value whose item is its number of bytes.

@@ -1,7 +1,7 @@
 //! `vectors FILE [BRIDGE]`: compares every `call` and `listing` line of a vectors file with the independent answers, or
 //! with those of the library behind a bridge. An entry is named short (`sets`, and the polygon asked for as a number) or as
-//! it is exported (`sheet_owner_sets`, and what is asked as `polygon=NUMBER`, or `-`). Prints each difference and last `N passed, M failed`; the exit status is 1
-//! if any failed.
+//! it is exported (`sheet_owner_sets`, and what is asked as NAME=NUMBER,.. of `polygon` and `mode`, or `-`). Prints each
+//! difference and last `N passed, M failed`; the exit status is 1 if any failed.
 
 use independent::bridge::{start, Call, Function, Room};
 use independent::entries::{fit, Entry, Input, Success};
@@ -74,17 +74,23 @@ fn unhex(hex: &str) -> Vec<u8> {
     (0..hex.len()).step_by(2).map(byte).collect()
 }
 
+/// The number of this name among what is asked.
+fn number(asked: &str, name: &str) -> u32 {
+    let mut words = asked.split(',').filter_map(|word| word.split_once('='));
+    let (_, number) = words.find(|(word, _)| *word == name).unwrap_or_else(|| panic!("no {name} in {asked}"));
+    number.parse().unwrap_or_else(|_| panic!("no number in {asked}"))
+}
+
 fn entry(name: &str, asked: &str) -> Entry {
     match name {
         "numbers" | "sheet_numbers" => Entry::Numbers,
         "write" | "sheet_write" => Entry::Write,
         "sets" | "sheet_owner_sets" => Entry::OwnerSets,
         "owners" | "sheet_owners" => Entry::Owners,
-        "boundary" | "sheet_boundary" => {
-            let number = asked.strip_prefix("polygon=").unwrap_or(asked);
-            Entry::Boundary(number.parse().expect("a polygon's number"))
-        }
+        "boundary" => Entry::Boundary(asked.parse().expect("a polygon's number")),
+        "sheet_boundary" => Entry::Boundary(number(asked, "polygon")),
         "sheet_listing" => Entry::Listing,
+        "sheet_position" => Entry::Position(number(asked, "mode")),
         _ => panic!("unknown entry {name}"),
     }
 }

@@ -24,6 +24,8 @@ pub enum Outcome {
     Repaired(Vec<u8>),
     /// It is refused as a sheet, by this code and item.
     Refused(u8, u64),
+    /// It can't be read as a sheet, by this code and item, and the position of the field at fault is this one.
+    Unread(u8, u64, u64),
     /// These numbers make up a sheet.
     Written,
     /// These numbers are refused: 42.
@@ -65,5 +67,10 @@ impl Cases {
     /// A sheet that is refused.
     pub fn refused(&mut self, name: impl Into<String>, sheet: impl Into<Vec<u8>>, (code, item): (u8, u64)) {
         self.add(name, sheet, Outcome::Refused(code, item));
+    }
+
+    /// A sheet that can't be read, with the position of the field at fault.
+    pub fn unread(&mut self, name: impl Into<String>, sheet: impl Into<Vec<u8>>, (code, item): (u8, u64), at: u64) {
+        self.add(name, sheet, Outcome::Unread(code, item, at));
     }
 }

@@ -34,7 +34,7 @@ fn line_drawn_twice() -> Geometry {
 
 /// A square in four triangles round its middle. Polygon 1 is three parts of two nested collections, polygon 2 the rest and one
 /// triangle of polygon 1; both byte orders, both types of pieces, and -0 for 0.
-fn nested_sheet() -> Geometry {
+pub(super) fn nested_sheet() -> Geometry {
     let middle = (2.0, 2.0);
     let square: [Doubles; 5] = [(-0.0, 0.0), (4.0, -0.0), (4.0, 4.0), (0.0, 4.0), (-0.0, 0.0)];
     let ring = |k: usize| vec![square[k], square[k + 1], middle, square[k]];

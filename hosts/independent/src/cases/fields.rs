@@ -57,8 +57,43 @@ fn spoiled_at(sheet: &Encoded, mark: &Mark) -> Vec<(String, Vec<u8>)> {
 }
 
 /// The bytes with others from this place on.
-fn with(bytes: &[u8], place: usize, new: &[u8]) -> Vec<u8> {
+pub(super) fn with(bytes: &[u8], place: usize, new: &[u8]) -> Vec<u8> {
     let mut bytes = bytes.to_vec();
     bytes[place..place + new.len()].copy_from_slice(new);
     bytes
+}
+
+#[cfg(test)]
+mod tests {
+    use super::*;
+    use crate::reading::read_or_fault;
+
+    /// The code and the position of the fault.
+    fn fault(bytes: &[u8]) -> Option<(u8, usize)> {
+        read_or_fault(bytes).err().map(|fault| (fault.refusal.code, fault.position))
+    }
+
+    #[test]
+    fn a_fault_is_told_where_its_field_was_put() {
+        let sheet = every_place().encode();
+        for Mark { field, place, little } in sheet.marks {
+            let after = |new: &[u8], at: usize| fault(&with(&sheet.bytes, place + at, new));
+            let number = |number: u32| after(&number_bytes(number, little), 0);
+            let double = |at: usize, double: f64| after(&double_bytes(double, little), at);
+            for end in place..place + field.length() {
+                assert_eq!(fault(&sheet.bytes[..end]), Some((1, place)));
+            }
+            match field {
+                Field::Order => assert_eq!([2, 255].map(|byte| after(&[byte], 0)), [Some((2, place)); 2]),
+                Field::Kind => assert_eq!([0, 4, 1_003].map(number), [Some((3, place)); 3]),
+                Field::Count => assert_eq!([0, 4_097, u32::MAX].map(number), [Some((4, place)); 3]),
+                Field::Point | Field::LastPoint => {
+                    assert_eq!((double(0, 0.5), double(8, f64::NAN)), (Some((5, place)), Some((5, place + 8))));
+                }
+            }
+            if field == Field::LastPoint {
+                assert_eq!([double(0, 3.0), double(8, 3.0)], [Some((6, place)); 2]);
+            }
+        }
+    }
 }

@@ -93,20 +93,31 @@ fn odd_place(i: i32) -> i32 {
     2 * ((1 + i / 509) * k * k % 509 * k % 509) + 1
 }
 
-/// The longest sheet that can be read, 185,938 bytes, and the input that is looked at farthest before it is refused, 185,978:
-/// with all points used up, a last member goes as deep as can be, to the count of a ring.
-fn longest(cases: &mut Cases) {
+/// The triangles of the widest table shared out to so many members, each a polygon as deep as can be.
+fn deep_members(count: usize) -> Vec<Geometry> {
     let triangles = widest();
     let within = |corners: &Corners| nested(3, multi_polygon(vec![one(closed(corners))]));
-    let members = |count: usize| {
-        let member = |k: usize| &triangles[k * 1_024 / count..(k + 1) * 1_024 / count];
-        (0..count).map(|k| collection(member(k).iter().map(within).collect())).collect::<Vec<Geometry>>()
-    };
-    let sets: Vec<u64> = (0..1_024).map(|place| 1 << (place / 16)).collect();
-    cases.sets("the longest sheet", sheet(&triangles, members(64)), &sets);
+    let member = |k: usize| &triangles[k * 1_024 / count..(k + 1) * 1_024 / count];
+    (0..count).map(|k| collection(member(k).iter().map(within).collect())).collect()
+}
+
+/// The longest sheet that can be read, 185,938 bytes.
+pub fn longest_sheet() -> Geometry {
+    sheet(&widest(), deep_members(64))
+}
+
+/// The input that is looked at farthest before it is refused, 185,978 bytes: with all points used up, a last member goes as deep
+/// as can be, to the count of a ring.
+pub fn farthest_fault() -> Vec<u8> {
     let begun = nested(4, multi_polygon(vec![one(way(&[(0, 0); 4]))]));
-    let whole = sheet(&triangles, [members(63), vec![begun]].concat()).bytes();
-    let farthest = whole[..whole.len() - 64].to_vec();
+    let whole = sheet(&widest(), [deep_members(63), vec![begun]].concat()).bytes();
+    whole[..whole.len() - 64].to_vec()
+}
+
+fn longest(cases: &mut Cases) {
+    let sets: Vec<u64> = (0..1_024).map(|place| 1 << (place / 16)).collect();
+    cases.sets("the longest sheet", longest_sheet(), &sets);
+    let farthest = farthest_fault();
     cases.refused("the farthest fault, cut short by a byte", farthest[..farthest.len() - 1].to_vec(), (1, 65));
     cases.refused("the farthest fault", farthest, (4, 65));
 }

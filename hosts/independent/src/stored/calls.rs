@@ -1,8 +1,9 @@
 //! The calls that the program entries_try makes, as its frames, and the lines that it is to print.
 //!
-//! A frame is a byte for the entry (0 numbers, 1 write, 2 owner sets, 3 owners, 4 boundary, 5 listing), u32 length of the input,
-//! u32 number of lent bytes, and the input, little-endian; before a sheet that the boundary entry takes stands the polygon's
-//! number, a u32. A line has the packed answer, a blank, and a checksum of all lent bytes after the call, each 170 before it.
+//! A frame is a byte for the entry (0 numbers, 1 write, 2 owner sets, 3 owners, 4 boundary, 5 listing, 6 position), u32 length
+//! of the input, u32 number of lent bytes, and the input, little-endian; before a sheet that the boundary entry takes stands the
+//! polygon's number, a u32, and before one that the position entry takes the mode, a u32. A line has the packed answer, a blank,
+//! and a checksum of all lent bytes after the call, each 170 before it.
 //!
 //! The calls are few, chosen for what they try; `differ` makes those of all cases, on libsheets.a.
 
@@ -24,33 +25,46 @@ struct Call {
 }
 
 /// The calls: of each entry document 01's examples and the sheets of the folder examples/, the strip sheet with every room; and
-/// short cases of each code. The boundary entry is asked for polygon 1, and on the strip sheet for all others.
+/// short cases of each code. The boundary entry is asked for polygon 1, and on the strip sheet for all others; the position entry
+/// in mode 0, and on the strip sheet in modes that aren't known.
 fn calls() -> Vec<Call> {
     let mut calls = Vec::new();
-    for entry in [Entry::Numbers, Entry::Write, Entry::OwnerSets, Entry::Owners, Entry::Boundary(1), Entry::Listing] {
+    let judging = [Entry::OwnerSets, Entry::Owners, Entry::Boundary(1), Entry::Listing];
+    for entry in [Entry::Numbers, Entry::Write].into_iter().chain(judging).chain([Entry::Position(0)]) {
         for case in chosen(entry) {
             calls.extend(with_rooms(entry, case));
         }
     }
     let strip = cases::named("strip");
     let asked = [0, 2, 3, 65, 257, 1 << 31, u32::MAX].map(Entry::Boundary);
-    calls.extend(asked.map(|entry| Call { entry, input: strip.clone(), room: 200 }));
+    let modes = [1, 7, 256, u32::MAX].map(Entry::Position);
+    calls.extend(asked.into_iter().chain(modes).map(|entry| Call { entry, input: strip.clone(), room: 200 }));
     calls
 }
 
-/// The cases of an entry: the examples, and short ones of each code.
+/// The cases of an entry: the examples, of the position entry's the strip sheet, and short ones of each code.
 fn chosen(entry: Entry) -> Vec<Case> {
     let writes = entry == Entry::Write;
-    let examples = cases::examples().into_iter().filter(|_| !writes);
+    let only_strip = matches!(entry, Entry::Position(_));
+    let examples = cases::examples().into_iter().filter(|case| !writes && (!only_strip || case.name == "strip"));
     let mut seen: BTreeMap<u8, usize> = BTreeMap::new();
     let others = cases::all().into_iter().skip(cases::examples().len());
     let fitting = others.filter(|case| case.is_sheet() != writes && case.input.len() <= LONGEST);
     let first = fitting.filter(|case| {
-        let times = seen.entry(whole(entry, &case.input).map_or_else(|refusal| refusal.code, |_| 0)).or_default();
+        let times = seen.entry(code(entry, &case.input)).or_default();
         *times += 1;
         writes || *times <= OF_EACH_CODE
     });
     examples.chain(first).collect()
+}
+
+/// The code of an entry's answer with room enough; of the position entry's, the code that it tells.
+fn code(entry: Entry, input: &[u8]) -> u8 {
+    match (entry, whole(entry, input)) {
+        (Entry::Position(_), Ok(success)) => success.bytes[0],
+        (_, Ok(_)) => 0,
+        (_, Err(refusal)) => refusal.code,
+    }
 }
 
 /// The call with just the room that its answer needs, and with 100 bytes where it is refused. The strip sheet, and its numbers:
@@ -76,6 +90,7 @@ impl Call {
             Entry::Owners => (3, None),
             Entry::Boundary(asked) => (4, Some(asked)),
             Entry::Listing => (5, None),
+            Entry::Position(mode) => (6, Some(mode)),
         };
         let asked = asked.map_or(Vec::new(), |asked| asked.to_le_bytes().to_vec());
         let length = (asked.len() + self.input.len()) as u32;
@@ -129,7 +144,7 @@ mod tests {
         let judging = [&reading[..], &[10, 11, 12, 20, 21]].concat();
         let owners = [&judging[..], &[30]].concat();
         let boundary = [&judging[..], &[41]].concat();
-        let wanted = [&reading[..], &[0, 40, 42], &judging, &owners, &boundary, &[0, 40]];
+        let wanted = [&reading[..], &[0, 40, 42], &judging, &owners, &boundary, &[0, 40], &[0, 40]];
         let stored: BTreeSet<(u8, u8)> = tried().into_iter().map(|(entry, code, _)| (entry, code)).collect();
         let numbered = wanted.iter().enumerate();
         let wanted = numbered.flat_map(|(entry, codes)| codes.iter().map(move |code| (entry as u8, *code)));
@@ -138,7 +153,7 @@ mod tests {
 
     #[test]
     fn every_room_of_every_entry_is_stored() {
-        for entry in 0..6 {
+        for entry in 0..7 {
             let calls: Vec<_> = tried().into_iter().filter(|tried| tried.0 == entry).collect();
             assert!(calls.contains(&(entry, 0, Some(0))), "exact room for {entry}");
             assert!(calls.contains(&(entry, 0, Some(9))), "lent bytes past the answer for {entry}");
@@ -149,7 +164,7 @@ mod tests {
         let of = |less: fn(usize) -> usize| -> BTreeSet<u8> {
             calls().iter().filter(|call| short(call, less)).map(|call| call.frame()[0]).collect()
         };
-        assert_eq!((of(|length| length - 1), of(|_| 0)), ((0..6).collect(), (0..6).collect()));
+        assert_eq!((of(|length| length - 1), of(|_| 0)), ((0..7).collect(), (0..7).collect()));
     }
 
     #[test]

@@ -29,6 +29,9 @@ module _ (d : tie.Else1) where
   pub ordered : remains S1 (C1 .at) 1 ≡ true
   ordered = sym (d .before .remain .ensures) ∙ not-false _ (d .if1 .left)
 
+  pub order-fits : C1 .at + 1 ≤ length S1
+  order-fits = leb-true (C1 .at + 1) (length S1) ordered
+
 module _ (d : tie.Else2) where
   abbrev S2 : List ℕ
   S2 = S1 (d .before .before)
@@ -116,7 +119,7 @@ unfolding geometryAt
 returns c = c .refused .ensures ∙ simp (sym (c .before .before .remain .ensures) ∙ not-true _ (c .before .if1 .taken))
 
 shared-slice-read-order : tie.Need-shared-slice-read-order
-shared-slice-read-order c = let n = leb-true (C1 (c .before) .at + 1) (length (S1 (c .before))) (ordered (c .before)) in omega arith
+shared-slice-read-order c = let n = order-fits (c .before) in omega arith
 
 refused-requires-2 : tie.Need-refused-requires-2
 refused-requires-2 c κs = search needs
@@ -127,6 +130,9 @@ returns-2 c = c .refused2 .ensures ∙ simp (ordered (c .before .before .before)
 
 remain-requires-2 : tie.Need-remain-requires-2
 remain-requires-2 c κs = search needs
+
+add-refused : tie.Need-add-refused
+add-refused c = let n = order-fits (c .before .before .before .before) in omega arith
 
 refused-requires-3 : tie.Need-refused-requires-3
 refused-requires-3 c κs = search needs
@@ -153,6 +159,9 @@ standing-requires c κs = search needs
 fault-requires : tie.Need-fault-requires
 fault-requires c κs = search needs
 
+add-refused-2 : tie.Need-add-refused-2
+add-refused-2 c = let n = type-fits (c .before .before .before .before) in omega arith
+
 refused-requires-4 : tie.Need-refused-requires-4
 refused-requires-4 c κs = search needs
 
@@ -171,6 +180,9 @@ returns-4 c =
 
 remain-requires-3 : tie.Need-remain-requires-3
 remain-requires-3 c κs = search needs
+
+add-refused-3 : tie.Need-add-refused-3
+add-refused-3 c = let n = type-fits (c .before .before .before .before .before .before) in omega arith
 
 refused-requires-5 : tie.Need-refused-requires-5
 refused-requires-5 c κs = search needs
@@ -196,6 +208,9 @@ word-requires-2 c κs = let n = count-fits c in omega arith
 
 count-fits-requires : tie.Need-count-fits-requires
 count-fits-requires c κs = search needs
+
+add-refused-4 : tie.Need-add-refused-4
+add-refused-4 c = let n = type-fits (c .before .before .before .before .before .before .before .before .before) in omega arith
 
 refused-requires-6 : tie.Need-refused-requires-6
 refused-requires-6 c κs = search needs
@@ -247,20 +262,24 @@ geometry-spec =
     refused-requires-2
     returns-2
     remain-requires-2
+    add-refused
     refused-requires-3
     returns-3
     add-word
     word-requires
     standing-requires
     fault-requires
+    add-refused-2
     refused-requires-4
     returns-4
     remain-requires-3
+    add-refused-3
     refused-requires-5
     returns-5
     add-word-2
     word-requires-2
     count-fits-requires
+    add-refused-4
     refused-requires-6
     returns-6
     opened-requires

@@ -29,7 +29,7 @@ impl Calls {
             let writes = function == Function::Entry(Entry::Write);
             let (input, bytes) = if writes { (&written, &numbers) } else { (&judged, &sheet) };
             let answer = function.whole(input);
-            for (room, expected) in self.with_rooms(mixed(place, purpose as u64), every, answer) {
+            for (room, expected) in self.with_rooms(function, mixed(place, purpose as u64), every, answer) {
                 let call = Call { input: self.inputs.name(place), function, room, expected };
                 frames.extend(call.frame(bytes));
                 calls.push(call);
@@ -37,12 +37,17 @@ impl Calls {
         }
     }
 
-    /// The rooms of a call, every kind or one, each with the answer that is right with it; or a wrapper's own.
-    fn with_rooms(&self, number: u64, every: bool, answer: Answer) -> Vec<(Room, Answer)> {
+    /// The rooms of a call, every kind or one, each with the answer that is right with it; or a wrapper's own. A position has
+    /// room enough on every input.
+    fn with_rooms(&self, function: Function, number: u64, every: bool, answer: Answer) -> Vec<(Room, Answer)> {
         if self.wrapped {
             return vec![(Room::Own, answer)];
         }
-        let rooms = if every { every_room(&answer).to_vec() } else { vec![room(number, &answer)] };
+        let [exact, ..] = every_room(&answer);
+        let mut rooms = if every { every_room(&answer).to_vec() } else { vec![room(number, &answer)] };
+        if matches!(function, Function::Entry(Entry::Position(_))) && rooms[0] < exact {
+            rooms.push(exact);
+        }
         rooms.into_iter().map(|room| (Room::Lent(room), fit(answer.clone(), room))).collect()
     }
 
@@ -52,8 +57,22 @@ impl Calls {
         let mut entries = vec![Entry::Numbers, Entry::Write, Entry::OwnerSets, Entry::Owners, Entry::Listing];
         let every = every || matches!(self.inputs, Inputs::Largest(_));
         entries.extend(asked(place, polygons, every).into_iter().map(Entry::Boundary));
+        entries.extend(self.modes(place, every).into_iter().map(Entry::Position));
         let verdict = self.wrapped.then_some(Function::Verdict);
         entries.into_iter().map(Function::Entry).chain(verdict).collect()
+    }
+
+    /// The modes asked for: the one that there is, and all numbers of none that might be taken for it, or now and then one of
+    /// these. A wrapper has that one only.
+    fn modes(&self, place: u64, every: bool) -> Vec<u32> {
+        let unknown = [1, 7, 256, 1 << 31, u32::MAX];
+        let number = mixed(place, 101) as usize;
+        let others = match (self.wrapped, every) {
+            (true, _) => &[][..],
+            (false, true) => &unknown[..],
+            (false, false) => unknown.get(number % 24..=number % 24).unwrap_or_default(),
+        };
+        [&[0], others].concat()
     }
 
     /// The sheet, and the write function's numbers, of which a wrapper takes whole ones.
@@ -86,20 +105,21 @@ fn asked(place: u64, polygons: u32, every: bool) -> Vec<u32> {
     vec![others.get(number as usize % 24).copied().unwrap_or(one)]
 }
 
-/// Numbers of lent bytes: exact, one short, none, and eight more.
-fn every_room(answer: &Answer) -> [usize; 4] {
+/// Numbers of lent bytes: exact, one short, none, one more, and eight more.
+fn every_room(answer: &Answer) -> [usize; 5] {
     let length = answer.as_ref().map_or(16, |success| success.bytes.len());
-    [length, length.saturating_sub(1), 0, length + 8]
+    [length, length.saturating_sub(1), 0, length + 1, length + 8]
 }
 
 /// One of these, mostly the exact one, or 100,000.
 fn room(number: u64, answer: &Answer) -> usize {
-    let [exact, short, none, more] = every_room(answer);
+    let [exact, short, none, one_more, more] = every_room(answer);
     match number % 128 {
         0..=55 => exact,
         56..=71 => short,
         72..=79 => none,
-        80..=126 => more,
+        80..=95 => one_more,
+        96..=126 => more,
         _ => 100_000,
     }
 }

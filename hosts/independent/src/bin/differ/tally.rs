@@ -17,7 +17,7 @@ pub struct Tally {
 impl Tally {
     /// Counts a call.
     pub fn count(&mut self, call: &Call, difference: Option<String>) {
-        *self.codes.entry((call.number(), call.packed() % 256)).or_default() += 1;
+        *self.codes.entry((call.number(), call.code())).or_default() += 1;
         match difference {
             None => self.passed += 1,
             Some(difference) => self.fail(format!("{}: {difference}", call.name())),

@@ -2,23 +2,34 @@
 use std::ffi::OsStr;
 use std::os::unix::ffi::OsStrExt;
 
-use sheets::Verdict;
+use sheets::{Refusal, Verdict};
 
 use crate::names::shown;
 
-/// What became of a file.
+/// What became of a file. A refusal has the position of the field at fault where reading gives it.
 pub enum Outcome {
-    Checked(Verdict),
+    Clean,
+    Repair,
+    Refused(Refusal, Option<u64>),
     Unread(String),
 }
 
 impl Outcome {
+    /// What becomes of a sheet.
+    pub fn of(sheet: &[u8]) -> Outcome {
+        match sheets::verdict(sheet) {
+            Verdict::Clean => Outcome::Clean,
+            Verdict::Repair => Outcome::Repair,
+            Verdict::Refused(refusal) => Outcome::Refused(refusal, refusal.of_reading().then(|| sheets::position(sheet).byte)),
+        }
+    }
+
     /// The exit status that it asks for.
     pub fn status(&self) -> usize {
         match self {
-            Outcome::Checked(Verdict::Clean) => 0,
-            Outcome::Checked(Verdict::Repair) => 1,
-            Outcome::Checked(Verdict::Refused(_)) => 2,
+            Outcome::Clean => 0,
+            Outcome::Repair => 1,
+            Outcome::Refused(..) => 2,
             Outcome::Unread(_) => 3,
         }
     }
@@ -30,9 +41,12 @@ impl Outcome {
             return format!("{{\"file\":{},{}}}\n", quoted(&name), self.members());
         }
         match self {
-            Outcome::Checked(Verdict::Clean) => format!("{name}: clean\n"),
-            Outcome::Checked(Verdict::Repair) => format!("{name}: repair\n"),
-            Outcome::Checked(Verdict::Refused(r)) => format!("{name}: refused {} {}: {}\n", r.code, r.item, r.sentence()),
+            Outcome::Clean => format!("{name}: clean\n"),
+            Outcome::Repair => format!("{name}: repair\n"),
+            Outcome::Refused(refusal, position) => {
+                let place = position.map_or(String::new(), |byte| format!(" at byte {}", grouped(byte)));
+                format!("{name}: refused {} {}{place}: {}\n", refusal.code, refusal.item, refusal.sentence())
+            }
             Outcome::Unread(why) => format!("{name}: could not be read: {why}\n"),
         }
     }
@@ -40,14 +54,27 @@ impl Outcome {
     /// The members of the JSON object behind the file's name.
     fn members(&self) -> String {
         match self {
-            Outcome::Checked(Verdict::Clean) => "\"verdict\":\"clean\"".to_string(),
-            Outcome::Checked(Verdict::Repair) => "\"verdict\":\"repair\"".to_string(),
-            Outcome::Checked(Verdict::Refused(r)) => {
-                format!("\"verdict\":\"refused\",\"code\":{},\"item\":{},\"reason\":{}", r.code, r.item, quoted(&r.sentence()))
+            Outcome::Clean => "\"verdict\":\"clean\"".to_string(),
+            Outcome::Repair => "\"verdict\":\"repair\"".to_string(),
+            Outcome::Refused(refusal, position) => {
+                let place = position.map_or(String::new(), |byte| format!(",\"position\":{byte}"));
+                let reason = quoted(&refusal.sentence());
+                format!("\"verdict\":\"refused\",\"code\":{},\"item\":{}{place},\"reason\":{reason}", refusal.code, refusal.item)
             }
             Outcome::Unread(why) => format!("\"verdict\":\"unreadable\",\"reason\":{}", quoted(why)),
         }
     }
+}
+
+/// A number, its digits in threes from the right with commas between.
+fn grouped(number: u64) -> String {
+    let mut digits = number.to_string();
+    let mut place = digits.len();
+    while place > 3 {
+        place -= 3;
+        digits.insert(place, ',');
+    }
+    digits
 }
 
 /// A text without control characters as a JSON string.

@@ -20,6 +20,7 @@ use names::shown;
 const HELP: &str = "usage: gate [--json] [--flat] PATH..
 Checks sheet files on all cores, and prints a verdict line for each, in the order of the command, and a summary.
   FILE: clean, FILE: repair, FILE: refused CODE ITEM: WHY, or FILE: could not be read: WHY
+With the codes 1 to 8 it is refused CODE ITEM at byte N: WHY, where N is the place of the fault in the file, 0 for its first byte.
 PATH is a regular file, - for standard input, or a folder: its files whose names end in .wkb, and those of the folders below it, by the bytes of their
 paths. What is passed over in a folder is said on standard error and counted in the summary; a folder without a sheet could not be read.
   --json       one JSON object on a line for each file, and one for the summary
@@ -99,7 +100,7 @@ fn check(candidate: &Candidate) -> Outcome {
         return Outcome::Unread(why.clone());
     }
     match files::read(&candidate.name) {
-        Ok(sheet) => Outcome::Checked(sheets::verdict(&sheet)),
+        Ok(sheet) => Outcome::of(&sheet),
         Err(why) => Outcome::Unread(why),
     }
 }

@@ -1,0 +1,35 @@
+-- What the promises on byte positions speak of: the next place after a step, lent bytes that are enough, the entries that read a sheet.
+use mathlib.Core.Path.{_≡_}
+use mathlib.Core.List.{List}
+use Prim.Native.Nat.{ℕ, _+_, _≤_}
+use lib.ListN.{length}
+use Rattle.wkb.specs.declared.Cursor.{Cursor}
+use Rattle.wkb.specs.declared.Step.{Step}
+use Rattle.wkb.specs.declared.Step.the-variants.{Geometry, Ring, Point, End, Refused}
+use Rattle.wkb.specs.Steps.{toldAt}
+use Rattle.lent.specs.Stages.{value, refused}
+use Rattle.lent.specs.Answered.{Outcome}
+use Rattle.demands.specs.Entries.{Entry, numbers, position, write, ownerSets, owners, boundary, listing}
+
+-- The next place is within the bytes, and as far from where the step began as the field is long: 9 bytes a header, 4 a ring's count, 16 a point.
+abbrev pub NextAfter : List ℕ → Cursor → Step → Type 0
+NextAfter s c (Geometry kind n d) = (d .at ≡ toldAt s c .began + 9) × (d .at ≤ length s)
+NextAfter s c (Ring n d) = (d .at ≡ toldAt s c .began + 4) × (d .at ≤ length s)
+NextAfter s c (Point x y d) = (d .at ≡ toldAt s c .began + 16) × (d .at ≤ length s)
+NextAfter s c (End d) = Unit {0}
+NextAfter s c (Refused code item field d) = Unit {0}
+
+-- As many bytes are lent as the answer has.
+abbrev pub Enough : Outcome → List ℕ → Type 0
+Enough (value w) lent = length (w .text) ≤ length lent
+Enough (refused code item) lent = Unit {0}
+
+-- The entries that read a sheet and hand a refusal of reading on as their own.
+abbrev pub ReadsSheet : Entry → Type 0
+ReadsSheet numbers = Unit {0}
+ReadsSheet (position mode) = ⊥
+ReadsSheet write = ⊥
+ReadsSheet ownerSets = Unit {0}
+ReadsSheet owners = Unit {0}
+ReadsSheet (boundary k) = Unit {0}
+ReadsSheet listing = ⊥

@@ -1,0 +1,1 @@
+// Where reading is refused stands in specs/; there is no code.
