@@ -44,6 +44,11 @@ extern "C" {
 #define SHEETS_LISTING_ROOM 6600
 #define SHEETS_POSITION_ROOM 16
 
+/* What the entries whose names end in _by are asked by, and sheet_position: the mode, how the sheet is read, and the way, how gaps are filled. */
+#define SHEETS_MODE_PRESENT 0
+#define SHEETS_MODE_OLDER 1
+#define SHEETS_WAY_PRIORITY 0
+
 /* Free stack that a calling thread needs, in bytes. */
 #define SHEETS_STACK 524288
 
@@ -77,13 +82,39 @@ uint64_t sheet_boundary(const uint8_t *sheet, size_t sheet_len, uint32_t polygon
    polygon owns after repair. A refused sheet has a listing too: `refused` code item. Item: bytes. Refusal: 40. */
 uint64_t sheet_listing(const uint8_t *sheet, size_t sheet_len, uint8_t *out, size_t out_len);
 
-/* Where in the bytes reading stops: the answer that sheet_numbers gives with room enough, item * 256 + code, and the position of the field at fault,
+/* Where in the bytes reading stops: the answer that sheet_numbers_by gives in this mode with room enough, item * 256 + code, and the position of the field at fault,
    counted in bytes from 0, as two little-endian uint64. The position is 0 for any answer but the refusals 1 to 8, which the other entries that take a
    sheet give alike. It is that of the field's first byte: for 1 of the field that is cut short, a point being one field, which may be sheet_len; for 2
    of the byte order, for 3 and 8 of the type, for 4 of the count, or of the type of the 65th polygon under a member; for 5 of the double, x before y;
-   for 6 of the ring's last point; for 7 of what follows the sheet. Mode 0 is the only one; for any other the answer told is 57. Item: 16, the bytes.
-   Refusal: 40. */
+   for 6 of the ring's last point; for 7 of what follows the sheet. It is the same in every mode; for a mode that isn't known the answer told is 57. Item: 16,
+   the bytes. Refusal: 40. */
 uint64_t sheet_position(const uint8_t *sheet, size_t sheet_len, uint32_t mode, uint8_t *out, size_t out_len);
+
+/* The entries above that take a sheet, by a mode and a way. Items and rooms are those of the entries without _by, which are the ones in
+   SHEETS_MODE_PRESENT and SHEETS_WAY_PRIORITY.
+
+   SHEETS_MODE_OLDER is for sheets of the older edition, whose programs left rings in either direction. The sheet is read as in the present mode, with the
+   same refusals; then the first ring of each part of each polygon is turned round if its double area is negative, every later one if its own is positive. A
+   ring that is turned has its points in reverse order; one of double area 0 stays, and so do the triangles. All that follows is about the rings so turned.
+   What sheet_write makes of these numbers is read as the same numbers in either mode.
+
+   Any other mode is refused 57, before everything else, and any other way 54, right before 30. In the listing 57 is the only line, and 54 stands in the place
+   of the lines `after`, as 30 does. */
+
+/* sheet_numbers in a mode. Refusals: 57, 1 to 8, 40. */
+uint64_t sheet_numbers_by(const uint8_t *sheet, size_t sheet_len, uint32_t mode, uint8_t *out, size_t out_len);
+
+/* sheet_owner_sets in a mode. Refusals: 57, 1 to 8, 10, 11, 12, 20/21, 40. */
+uint64_t sheet_owner_sets_by(const uint8_t *sheet, size_t sheet_len, uint32_t mode, uint8_t *out, size_t out_len);
+
+/* sheet_owners in a mode and a way. Refusals: 57, 1 to 8, 10, 11, 12, 20/21, 54, 30, 40. */
+uint64_t sheet_owners_by(const uint8_t *sheet, size_t sheet_len, uint32_t mode, uint32_t way, uint8_t *out, size_t out_len);
+
+/* sheet_boundary in a mode and a way. Refusals: 57, 1 to 8, 10, 11, 12, 20/21, 41, 54, 30 (never), 40. */
+uint64_t sheet_boundary_by(const uint8_t *sheet, size_t sheet_len, uint32_t mode, uint32_t way, uint32_t polygon, uint8_t *out, size_t out_len);
+
+/* sheet_listing in a mode and a way. Refusal: 40. */
+uint64_t sheet_listing_by(const uint8_t *sheet, size_t sheet_len, uint32_t mode, uint32_t way, uint8_t *out, size_t out_len);
 
 #ifdef __cplusplus
 }

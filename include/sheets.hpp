@@ -35,6 +35,12 @@ struct Side {
     std::int32_t ux, uy, vx, vy;
 };
 
+// How a sheet is read: as it stands, or as one of the older edition, whose rings are turned.
+enum class Mode : std::uint32_t { Present = SHEETS_MODE_PRESENT, Older = SHEETS_MODE_OLDER };
+
+// How gaps are filled: each goes to the largest number beside it.
+enum class Way : std::uint32_t { Priority = SHEETS_WAY_PRIORITY };
+
 // What reading comes to: the length of the numbers form in bytes, or a refusal, and for a refusal the position of the field at fault, counted in bytes from 0.
 // It is 0 where the sheet is read.
 struct Position {
@@ -115,6 +121,54 @@ std::vector<Number> numbers_of(const Bytes &bytes) {
     return numbers;
 }
 
+// The number of a mode or of a way.
+template <class Choice>
+std::uint32_t number(Choice choice) {
+    return static_cast<std::uint32_t>(choice);
+}
+
+// What an entry answers in ordinary types.
+template <class Entry>
+Answer<std::vector<std::int32_t>> numbers(Entry entry) {
+    Answer<Bytes> answer = call(SHEETS_NUMBERS_ROOM, 1, entry);
+    return {answer.refusal, numbers_of<std::int32_t>(answer.value)};
+}
+
+template <class Entry>
+Answer<std::vector<std::uint64_t>> owner_sets(Entry entry) {
+    Answer<Bytes> answer = call(SHEETS_OWNER_SETS_ROOM, 8, entry);
+    return {answer.refusal, numbers_of<std::uint64_t>(answer.value)};
+}
+
+template <class Entry>
+Answer<Bytes> owners(Entry entry) {
+    return call(SHEETS_OWNERS_ROOM, 1, entry);
+}
+
+template <class Entry>
+Answer<std::vector<Side>> boundary(Entry entry) {
+    Answer<Bytes> answer = call(SHEETS_BOUNDARY_ROOM, 16, entry);
+    std::vector<std::int32_t> numbers = numbers_of<std::int32_t>(answer.value);
+    std::vector<Side> sides;
+    for (std::size_t at = 0; at < numbers.size(); at += 4) sides.push_back({numbers[at], numbers[at + 1], numbers[at + 2], numbers[at + 3]});
+    return {answer.refusal, sides};
+}
+
+template <class Entry>
+std::string listing(Entry entry) {
+    Answer<Bytes> answer = call(SHEETS_LISTING_ROOM, 1, entry);
+    if (!answer) throw std::logic_error("the room is enough for every listing");
+    return std::string(answer.value.begin(), answer.value.end());
+}
+
+// The verdict that owner sets come to.
+inline Verdict verdict(const Answer<std::vector<std::uint64_t>> &sets) {
+    if (!sets) return {Finding::Refused, sets.refusal};
+    for (std::uint64_t set : sets.value)
+        if (set == 0 || (set & (set - 1)) != 0) return {Finding::Repair, {}};
+    return {Finding::Clean, {}};
+}
+
 }  // namespace inside
 
 // The refusal in words.
@@ -131,10 +185,7 @@ inline std::string sentence(Refusal refusal) {
 // The sheet in numbers: the triangle count and six numbers each, the polygon count, then for each its parts, rings and points, every count before what it
 // counts, rings closed.
 inline Answer<std::vector<std::int32_t>> numbers(const std::uint8_t *sheet, std::size_t size) {
-    Answer<Bytes> answer = inside::call(SHEETS_NUMBERS_ROOM, 1, [&](std::uint8_t *lent, std::size_t room) {
-        return sheet_numbers(inside::given(sheet, size), size, lent, room);
-    });
-    return {answer.refusal, inside::numbers_of<std::int32_t>(answer.value)};
+    return inside::numbers([&](std::uint8_t *lent, std::size_t room) { return sheet_numbers(inside::given(sheet, size), size, lent, room); });
 }
 
 // The bytes of the sheet that the numbers make up, in one normal form.
@@ -149,59 +200,73 @@ inline Answer<Bytes> write(const std::vector<std::int32_t> &numbers) {
 
 // The owners of each triangle before repair: bit k - 1 stands for polygon k.
 inline Answer<std::vector<std::uint64_t>> owner_sets(const std::uint8_t *sheet, std::size_t size) {
-    Answer<Bytes> answer = inside::call(SHEETS_OWNER_SETS_ROOM, 8, [&](std::uint8_t *lent, std::size_t room) {
-        return sheet_owner_sets(inside::given(sheet, size), size, lent, room);
-    });
-    return {answer.refusal, inside::numbers_of<std::uint64_t>(answer.value)};
+    return inside::owner_sets([&](std::uint8_t *lent, std::size_t room) { return sheet_owner_sets(inside::given(sheet, size), size, lent, room); });
 }
 
 // The number of each triangle after repair.
 inline Answer<Bytes> owners(const std::uint8_t *sheet, std::size_t size) {
-    return inside::call(SHEETS_OWNERS_ROOM, 1, [&](std::uint8_t *lent, std::size_t room) {
-        return sheet_owners(inside::given(sheet, size), size, lent, room);
-    });
+    return inside::owners([&](std::uint8_t *lent, std::size_t room) { return sheet_owners(inside::given(sheet, size), size, lent, room); });
 }
 
 // The boundary sides of a polygon after repair.
 inline Answer<std::vector<Side>> boundary(const std::uint8_t *sheet, std::size_t size, std::uint32_t polygon) {
-    Answer<Bytes> answer = inside::call(SHEETS_BOUNDARY_ROOM, 16, [&](std::uint8_t *lent, std::size_t room) {
-        return sheet_boundary(inside::given(sheet, size), size, polygon, lent, room);
-    });
-    std::vector<std::int32_t> numbers = inside::numbers_of<std::int32_t>(answer.value);
-    std::vector<Side> sides;
-    for (std::size_t at = 0; at < numbers.size(); at += 4) sides.push_back({numbers[at], numbers[at + 1], numbers[at + 2], numbers[at + 3]});
-    return {answer.refusal, sides};
+    return inside::boundary([&](std::uint8_t *lent, std::size_t room) { return sheet_boundary(inside::given(sheet, size), size, polygon, lent, room); });
 }
 
 // The printed listing; a refused sheet has one, too.
 inline std::string listing(const std::uint8_t *sheet, std::size_t size) {
-    Answer<Bytes> answer = inside::call(SHEETS_LISTING_ROOM, 1, [&](std::uint8_t *lent, std::size_t room) {
-        return sheet_listing(inside::given(sheet, size), size, lent, room);
-    });
-    if (!answer) throw std::logic_error("the room is enough for every listing");
-    return std::string(answer.value.begin(), answer.value.end());
+    return inside::listing([&](std::uint8_t *lent, std::size_t room) { return sheet_listing(inside::given(sheet, size), size, lent, room); });
 }
 
-// Where in its bytes a sheet can't be read.
-inline Position position(const std::uint8_t *sheet, std::size_t size) {
+// Where in its bytes a sheet can't be read, in a mode, and in the present one.
+inline Position position_by(const std::uint8_t *sheet, std::size_t size, Mode mode) {
     Answer<Bytes> answer = inside::call(SHEETS_POSITION_ROOM, 1, [&](std::uint8_t *lent, std::size_t room) {
-        return sheet_position(inside::given(sheet, size), size, 0, lent, room);
+        return sheet_position(inside::given(sheet, size), size, inside::number(mode), lent, room);
     });
     if (!answer) throw std::logic_error("the room is enough for every position");
     return {inside::unpacked(inside::little<std::uint64_t>(&answer.value[0])), inside::little<std::uint64_t>(&answer.value[8])};
 }
 
+inline Position position(const std::uint8_t *sheet, std::size_t size) { return position_by(sheet, size, Mode::Present); }
+
 // Is it a refusal of reading, whose position can be asked for?
 inline bool of_reading(Refusal refusal) { return refusal.code >= 1 && refusal.code <= 8; }
 
 // The verdict on a sheet.
-inline Verdict verdict(const std::uint8_t *sheet, std::size_t size) {
-    Answer<std::vector<std::uint64_t>> sets = owner_sets(sheet, size);
-    if (!sets) return {Finding::Refused, sets.refusal};
-    for (std::uint64_t set : sets.value)
-        if (set == 0 || (set & (set - 1)) != 0) return {Finding::Repair, {}};
-    return {Finding::Clean, {}};
+inline Verdict verdict(const std::uint8_t *sheet, std::size_t size) { return inside::verdict(owner_sets(sheet, size)); }
+
+// The same in a mode and a way; those above are in the present mode and by priority.
+inline Answer<std::vector<std::int32_t>> numbers_by(const std::uint8_t *sheet, std::size_t size, Mode mode) {
+    return inside::numbers([&](std::uint8_t *lent, std::size_t room) {
+        return sheet_numbers_by(inside::given(sheet, size), size, inside::number(mode), lent, room);
+    });
 }
+
+inline Answer<std::vector<std::uint64_t>> owner_sets_by(const std::uint8_t *sheet, std::size_t size, Mode mode) {
+    return inside::owner_sets([&](std::uint8_t *lent, std::size_t room) {
+        return sheet_owner_sets_by(inside::given(sheet, size), size, inside::number(mode), lent, room);
+    });
+}
+
+inline Answer<Bytes> owners_by(const std::uint8_t *sheet, std::size_t size, Mode mode, Way way) {
+    return inside::owners([&](std::uint8_t *lent, std::size_t room) {
+        return sheet_owners_by(inside::given(sheet, size), size, inside::number(mode), inside::number(way), lent, room);
+    });
+}
+
+inline Answer<std::vector<Side>> boundary_by(const std::uint8_t *sheet, std::size_t size, Mode mode, Way way, std::uint32_t polygon) {
+    return inside::boundary([&](std::uint8_t *lent, std::size_t room) {
+        return sheet_boundary_by(inside::given(sheet, size), size, inside::number(mode), inside::number(way), polygon, lent, room);
+    });
+}
+
+inline std::string listing_by(const std::uint8_t *sheet, std::size_t size, Mode mode, Way way) {
+    return inside::listing([&](std::uint8_t *lent, std::size_t room) {
+        return sheet_listing_by(inside::given(sheet, size), size, inside::number(mode), inside::number(way), lent, room);
+    });
+}
+
+inline Verdict verdict_by(const std::uint8_t *sheet, std::size_t size, Mode mode) { return inside::verdict(owner_sets_by(sheet, size, mode)); }
 
 }  // namespace sheets
 

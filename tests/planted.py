@@ -2,7 +2,7 @@
 """Faults planted in the hosts are noticed: each hosts/planted/*.edit goes into a copy, which is built, and the smallest test that is to notice it must fail.
 
     python3 tests/planted.py DIFFER CHECKER GATE FOLDER    'N passed, M failed'; FOLDER has a few sheets, one of them with more than 1,000 bytes of listing,
-                                                           and one that reading refuses behind byte 1,000
+                                                           one that reading refuses behind byte 1,000, and one of the older edition
 
 An edit is written as those of crates/*/must-fail: `file:`, and then `old:`, which stands there once, and `new:`. The copy without an edit must pass first. A text
 that isn't found, a copy that can't be built and a fault that nothing notices are failures. CHECKER and GATE are commands, built from the hosts as they are.
@@ -69,10 +69,12 @@ class Copy:
         return [["cargo", "build", "--quiet", "--target", TARGET, "--target-dir", self.made, *built]]
 
     def tests(self, part):
-        """The commands that test a part: a wrapper on the largest sheets and on some that can't be read, a program on the folder's."""
+        """The commands that test a part: a wrapper on the largest sheets and on some that can't be read, the crate's functions on lent bytes, a program on
+        the folder's."""
         if part in ("header", "crate"):
             bridge = self.made_by_cmake("bridge") if part == "header" else self.made_by_cargo("bridge")
-            return [[self.differ, "--wrapped", bridge, *inputs] for inputs in (("largest", "5"), ("seeds", "60"))]
+            wrapped = [[self.differ, "--wrapped", bridge, *inputs] for inputs in (("largest", "6"), ("seeds", "60"))]
+            return wrapped + [[self.differ, bridge, "seeds", "200"]] * (part == "crate")
         programs = (self.made_by_cmake("checker"), self.gate) if part == "checker" else (self.checker, self.made_by_cargo("gate"))
         return [[sys.executable, os.path.join(ROOT, "tests", "programs.py"), "--sheets", *programs, self.folder]]
 

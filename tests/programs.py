@@ -169,14 +169,25 @@ class Programs:
 # ---------------------------------------------------------------------------------------------------------------- sheets
 
 
-def sheets_of(programs, what, paths):
-    """Both programs on sheets, whose verdicts and listings are those of the independent program."""
-    answers = independent.answers(paths)
+# The words of a command that name a mode, by the mode's number.
+MODES = ([], ["--older"])
+
+
+def sheets_of(programs, what, paths, mode=0):
+    """Both programs on sheets, whose verdicts and listings are those of the independent program in this mode."""
+    answers = independent.answers(paths, mode)
     lines = [line(path, told(verdict)) for path, (verdict, _) in zip(paths, answers)]
     listed = [printed for path, (_, listing) in zip(paths, answers) for printed in [shown(path) + ":", *listing]]
     refusals_told = [said for said in lines if kind(said) == 2]
-    outcomes = programs.same(what, paths, lines)
-    return lines, outcomes + [equal(what + ", listings", run(programs.checker, *paths), (max(map(kind, lines)), listed, refusals_told))]
+    words = MODES[mode] + paths
+    outcomes = programs.same(what, words, lines)
+    return lines, outcomes + [equal(what + ", listings", run(programs.checker, *words), (max(map(kind, lines)), listed, refusals_told))]
+
+
+def in_modes(programs, what, paths):
+    """The lines of the sheets in each mode, and what came out."""
+    lines, outcomes = zip(*(sheets_of(programs, "%s, mode %d" % (what, mode), paths, mode) for mode in range(len(MODES))))
+    return lines, sum(outcomes, [])
 
 
 def wkb_of(folder):
@@ -189,13 +200,19 @@ def contents(path):
 
 
 def generated(programs, folder):
-    """The folder's sheets, named one by one and as a folder; every kind of verdict and the largest sheets are among them."""
+    """The folder's sheets, named one by one and as a folder; every kind of verdict in each mode, sheets that are refused in one mode alone, and the largest
+    are among them."""
     paths = wkb_of(folder)
-    lines, outcomes = sheets_of(programs, "generated sheets", paths)
+    every, outcomes = in_modes(programs, "generated sheets", paths)
     largest = [path for path in paths if os.path.basename(path).startswith("largest-")]
+    changes = {(kind(present), kind(older)) for present, older in zip(*every)}
+    for words, lines in zip(MODES, every):
+        outcomes += [
+            equal("the folder", run(programs.gate, folder, *words), (2, lines + [summary(lines)], [])),
+            equal("kinds", {kind(said) for said in lines}, {0, 1, 2}),
+        ]
     return outcomes + [
-        equal("the folder", run(programs.gate, folder), (2, lines + [summary(lines)], [])),
-        equal("kinds", {kind(said) for said in lines}, {0, 1, 2}),
+        equal("refused in one mode alone", {(0, 2), (1, 2), (2, 0), (2, 1)} - changes, set()),
         equal("enough sheets", (len(paths) >= 500, len(largest) >= 16), (True, True)),
     ]
 
@@ -239,6 +256,34 @@ def sentences(programs, cases):
     }
     paths = [os.path.join(cases, name + ".wkb") for name in wanted]
     return programs.same("refusals in words", paths, [line(path, said) for path, said in zip(paths, wanted.values())])
+
+
+def older_edition(programs, cases):
+    """Verdicts on sheets of the older edition, made by hand: in the present mode and with --older, wherever that word stands."""
+    carried, missing = "refused 20 1: no set of triangles carries polygon 1", "no set of triangles carries polygon 2"
+    wanted = {
+        "clean, both polygons clockwise": (carried, "clean"),
+        "clean, polygon 2 clockwise": ("refused 20 2: " + missing, "clean"),
+        "example 2 - the same clockwise": (carried, "repair"),
+        "the strip sheet clockwise": (carried, "repair"),
+        "polygon 1 clockwise, 2 not carried": (carried, "refused 20 2: " + missing),
+        "a ring clockwise with a ring anticlockwise inside": (carried, "repair"),
+        "two rings anticlockwise in one part": ("repair", carried),
+        "two rings of one part, anticlockwise and anticlockwise": (carried, "refused 21 1: polygon 1 has no ground: its lines run there and back and cancel out"),
+        "a piece of type 3 clockwise, with a polygon clockwise": ("refused 10 2: triangle 2 has no area above 0",) * 2,
+        "a byte after the sheet": ("refused 7 0 at byte 820: there are bytes after the sheet",) * 2,
+    }
+    paths = [os.path.join(cases, name + ".wkb") for name in wanted]
+    lines = [[line(path, said[mode]) for path, said in zip(paths, wanted.values())] for mode in (0, 1)]
+    outcomes = programs.same("the older edition", paths, lines[0])
+    for words in (["--older", *paths], [*paths, "--older"], ["--older", "--older", *paths], ["--older", "--", *paths]):
+        outcomes += programs.same("the older edition with --older", words, lines[1])
+    listing = ["sheet 8 2", "polygon 1 32", "polygon 2 32", "gap 2 16", "overlap 2 16", "verdict repair", "after 1 32", "after 2 32"]
+    sheet = contents(os.path.join(cases, "the strip sheet clockwise.wkb"))
+    return outcomes + [
+        equal("its listing", run(programs.checker, "--older", given=sheet), (1, listing, [])),
+        equal("its present listing", run(programs.checker, given=sheet), (2, ["refused 20 1"], [line("-", carried)])),
+    ]
 
 
 # ---------------------------------------------------------------------------------------------------------------- long files
@@ -508,11 +553,11 @@ def progress(gate, sheet):
 def main(checker, gate, folder):
     programs = Programs(checker, gate)
     stored = wkb_of(EXAMPLES)
-    lines, outcomes = sheets_of(programs, "examples", stored)
+    (lines, _), outcomes = in_modes(programs, "examples", stored)
     outcomes += generated(programs, folder) + examples(programs)
     with tempfile.TemporaryDirectory() as cases:
         independent.cases(cases)
-        outcomes += sentences(programs, cases) + long_files(programs, cases)
+        outcomes += sentences(programs, cases) + older_edition(programs, cases) + long_files(programs, cases)
     outcomes += any_names(programs) + irregular(programs) + folders(programs) + options(programs)
     outcomes += unwritable(programs, stored) + as_they_come(programs, stored, lines) + progress(programs.gate, stored[0])
     if len(checker.split()) == 1:  # an emulator needs memory of its own
@@ -524,5 +569,5 @@ def main(checker, gate, folder):
 if __name__ == "__main__":
     if sys.argv[1:2] == ["--sheets"]:
         *commands, where = sys.argv[2:]
-        sys.exit(tally(sheets_of(Programs(*commands), "sheets", wkb_of(where))[1]))
+        sys.exit(tally(in_modes(Programs(*commands), "sheets", wkb_of(where))[1]))
     sys.exit(main(*sys.argv[1:]))

@@ -1,9 +1,11 @@
 // Calls the entries, or the functions of sheets.hpp, as the frames of standard input say, for a program that has the library on the other side of a pipe.
-// A frame: u8 function (0 numbers, 1 write, 2 owner sets, 3 owners, 4 boundary, 5 listing, 6 verdict, 7 position), u32 LE asked polygon or mode, u32 LE input
-// length, u32 LE room, input. The answer: u64 LE packed answer, then the lent bytes after the entry's call; lent byte i is (i * 131 + 17) % 256 before it. Bytes
-// before and behind the lent ones are watched: where a call changes one, or one of its input, the program ends with status 2.
+// A frame: u8 function (0 numbers, 1 write, 2 owner sets, 3 owners, 4 boundary, 5 listing, 6 verdict, 7 position; 8 numbers, 9 owner sets, 10 owners, 11 boundary,
+// 12 listing by what is asked), u32 LE mode, u32 LE way, u32 LE polygon, u32 LE input length, u32 LE room, input. The answer: u64 LE packed answer, then the lent
+// bytes after the entry's call; lent byte i is (i * 131 + 17) % 256 before it. Bytes before and behind the lent ones are watched: where a call changes one, or one
+// of its input, the program ends with status 2.
 // With a room of 2^32 - 1 a function of sheets.hpp is called. The answer: u64 LE packed answer, u32 LE length, its value in so many bytes, none for a refusal; a
-// verdict is one byte, 0 clean or 1 repair, and a position is that of mode 0. With --stack N the calls are made on a thread with N KiB of stack.
+// verdict is one byte, 0 clean or 1 repair, and in mode 0 a verdict and a position are those without a mode. With --stack N the calls are made on a thread with N KiB
+// of stack.
 #include <sheets.hpp>
 
 #include <pthread.h>
@@ -20,7 +22,7 @@ namespace {
 
 using sheets::Bytes;
 
-constexpr std::size_t head = 13, guard = 64, chunk = 1 << 16, most_room = 1 << 20;
+constexpr std::size_t head = 21, guard = 64, chunk = 1 << 16, most_room = 1 << 20;
 constexpr std::uint8_t watched = 0x5a;
 constexpr std::uint32_t own_room = 0xffffffff;
 
@@ -28,15 +30,30 @@ std::uint32_t number(const std::uint8_t *at) {
     return at[0] | at[1] << 8 | at[2] << 16 | static_cast<std::uint32_t>(at[3]) << 24;
 }
 
-std::uint64_t call(unsigned entry, std::uint32_t asked, const std::uint8_t *input, std::size_t size, std::uint8_t *lent, std::size_t room) {
-    switch (entry) {
+// What a frame asks for.
+struct Asked {
+    unsigned function;
+    std::uint32_t mode, way, polygon;
+};
+
+Asked asked_in(const std::uint8_t *frame) {
+    return {frame[0], number(frame + 1), number(frame + 5), number(frame + 9)};
+}
+
+std::uint64_t call(const Asked &asked, const std::uint8_t *input, std::size_t size, std::uint8_t *lent, std::size_t room) {
+    switch (asked.function) {
         case 0: return sheet_numbers(input, size, lent, room);
         case 1: return sheet_write(input, size, lent, room);
         case 2: return sheet_owner_sets(input, size, lent, room);
         case 3: return sheet_owners(input, size, lent, room);
-        case 4: return sheet_boundary(input, size, asked, lent, room);
+        case 4: return sheet_boundary(input, size, asked.polygon, lent, room);
         case 5: return sheet_listing(input, size, lent, room);
-        case 7: return sheet_position(input, size, asked, lent, room);
+        case 7: return sheet_position(input, size, asked.mode, lent, room);
+        case 8: return sheet_numbers_by(input, size, asked.mode, lent, room);
+        case 9: return sheet_owner_sets_by(input, size, asked.mode, lent, room);
+        case 10: return sheet_owners_by(input, size, asked.mode, asked.way, lent, room);
+        case 11: return sheet_boundary_by(input, size, asked.mode, asked.way, asked.polygon, lent, room);
+        case 12: return sheet_listing_by(input, size, asked.mode, asked.way, lent, room);
     }
     std::exit(3);
 }
@@ -70,7 +87,7 @@ void answer(const std::uint8_t *frame, std::size_t size, std::size_t room, Bytes
     std::memcpy(lent.data() + guard, fresh().data(), room);
     std::memset(lent.data() + guard + room, watched, guard);
     before.assign(frame + head, frame + head + size);
-    std::uint64_t packed = call(frame[0], number(frame + 1), frame + head, size, lent.data() + guard, room);
+    std::uint64_t packed = call(asked_in(frame), frame + head, size, lent.data() + guard, room);
     if (!untouched(lent.data()) || !untouched(lent.data() + guard + room) || (size != 0 && std::memcmp(before.data(), frame + head, size) != 0)) {
         std::fprintf(stderr, "bridge: a byte outside the lent ones was changed\n");
         std::exit(2);
@@ -112,19 +129,16 @@ Bytes bytes_of(const std::vector<sheets::Side> &sides) {
     return bytes;
 }
 
-Value listing(const std::uint8_t *input, std::size_t size) {
-    std::string text = sheets::listing(input, size);
+Value listing(const std::string &text) {
     return {{}, text.size(), Bytes(text.begin(), text.end())};
 }
 
-Value verdict(const std::uint8_t *input, std::size_t size) {
-    sheets::Verdict verdict = sheets::verdict(input, size);
+Value verdict(const sheets::Verdict &verdict) {
     if (verdict.finding == sheets::Finding::Refused) return {verdict.refusal};
     return {{}, 0, {static_cast<std::uint8_t>(verdict.finding == sheets::Finding::Repair)}};
 }
 
-Value position(const std::uint8_t *input, std::size_t size) {
-    sheets::Position position = sheets::position(input, size);
+Value position(const sheets::Position &position) {
     Bytes bytes;
     put_number(bytes, packed(position.answer.refusal, position.answer.value), 8);
     put_number(bytes, position.byte, 8);
@@ -139,23 +153,42 @@ Value counted(const sheets::Answer<T> &answer, bool by_bytes) {
     return {{}, by_bytes ? bytes.size() : answer.value.size(), bytes};
 }
 
-Value wrapped(unsigned function, std::uint32_t asked, const std::uint8_t *input, std::size_t size) {
-    switch (function) {
+// The mode and the way of a number.
+sheets::Mode mode_of(std::uint32_t number) {
+    if (number > 1) std::exit(3);
+    return number == 0 ? sheets::Mode::Present : sheets::Mode::Older;
+}
+
+sheets::Way way_of(std::uint32_t number) {
+    if (number > 0) std::exit(3);
+    return sheets::Way::Priority;
+}
+
+Value wrapped(const Asked &asked, const std::uint8_t *input, std::size_t size) {
+    const sheets::Mode mode = mode_of(asked.mode);
+    const sheets::Way way = way_of(asked.way);
+    const bool present = mode == sheets::Mode::Present;
+    switch (asked.function) {
         case 0: return counted(sheets::numbers(input, size), true);
         case 1: return counted(sheets::write(numbers_in(input, size)), true);
         case 2: return counted(sheets::owner_sets(input, size), false);
         case 3: return counted(sheets::owners(input, size), false);
-        case 4: return counted(sheets::boundary(input, size, asked), false);
-        case 5: return listing(input, size);
-        case 6: return verdict(input, size);
-        case 7: return position(input, size);
+        case 4: return counted(sheets::boundary(input, size, asked.polygon), false);
+        case 5: return listing(sheets::listing(input, size));
+        case 6: return verdict(present ? sheets::verdict(input, size) : sheets::verdict_by(input, size, mode));
+        case 7: return position(present ? sheets::position(input, size) : sheets::position_by(input, size, mode));
+        case 8: return counted(sheets::numbers_by(input, size, mode), true);
+        case 9: return counted(sheets::owner_sets_by(input, size, mode), false);
+        case 10: return counted(sheets::owners_by(input, size, mode, way), false);
+        case 11: return counted(sheets::boundary_by(input, size, mode, way, asked.polygon), false);
+        case 12: return listing(sheets::listing_by(input, size, mode, way));
     }
     std::exit(3);
 }
 
 // Calls the function of one frame, and puts its answer behind the others. An empty input comes with a null pointer.
 void answer_wrapped(const std::uint8_t *frame, std::size_t size, Bytes &answers) {
-    Value value = wrapped(frame[0], number(frame + 1), size == 0 ? nullptr : frame + head, size);
+    Value value = wrapped(asked_in(frame), size == 0 ? nullptr : frame + head, size);
     put_number(answers, packed(value.refusal, value.item), 8);
     put_number(answers, value.bytes.size(), 4);
     answers.insert(answers.end(), value.bytes.begin(), value.bytes.end());
@@ -182,7 +215,7 @@ void *serve(void *) {
         if (n == 0) std::exit(frames.empty() ? 0 : 3);
         std::size_t at = 0;
         while (frames.size() - at >= head) {
-            std::size_t size = number(&frames[at] + 5), room = number(&frames[at] + 9);
+            std::size_t size = number(&frames[at] + 13), room = number(&frames[at] + 17);
             if (frames.size() - at - head < size) break;
             if (room == own_room)
                 answer_wrapped(&frames[at], size, answers);

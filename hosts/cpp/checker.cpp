@@ -23,16 +23,18 @@
 namespace {
 
 using sheets::Finding;
+using sheets::Mode;
 using sheets::Verdict;
 
 // The exit statuses; the highest counts.
 enum Status { Clean = 0, Repair = 1, Refused = 2, Unreadable = 3 };
 
 const char help[] =
-    "usage: checker [--batch] [FILE..]\n"
+    "usage: checker [--batch] [--older] [FILE..]\n"
     "Prints the listing of each sheet file, with its name above where there are several, or of standard input where no file is named.\n"
     "The verdict line of a sheet that is refused or could not be read goes to standard error.\n"
     "  --batch      the verdict lines alone: FILE: clean, FILE: repair, FILE: refused CODE ITEM: WHY, or FILE: could not be read: WHY\n"
+    "  --older      the sheets are of the older edition: rings that run the wrong way are turned\n"
     "  -h, --help   this text\n"
     "  --version    the version\n"
     "  --           every word behind it is a file\n"
@@ -71,15 +73,27 @@ std::string grouped(std::uint64_t number) {
     return digits;
 }
 
+// A sheet, and how it is read.
+struct Sheet {
+    sheets::Bytes bytes;
+    Mode mode;
+};
+
+Verdict verdict(const Sheet &sheet) { return sheets::verdict_by(sheet.bytes.data(), sheet.bytes.size(), sheet.mode); }
+
+std::string listing(const Sheet &sheet) { return sheets::listing_by(sheet.bytes.data(), sheet.bytes.size(), sheet.mode, sheets::Way::Priority); }
+
+std::uint64_t position(const Sheet &sheet) { return sheets::position_by(sheet.bytes.data(), sheet.bytes.size(), sheet.mode).byte; }
+
 // A refusal of a sheet in words, with the position of the field at fault where reading gives it.
-std::string refused(const sheets::Bytes &sheet, sheets::Refusal refusal) {
+std::string refused(const Sheet &sheet, sheets::Refusal refusal) {
     const std::string numbers = "refused " + std::to_string(refusal.code) + ' ' + std::to_string(refusal.item);
-    const std::string place = sheets::of_reading(refusal) ? " at byte " + grouped(sheets::position(sheet.data(), sheet.size()).byte) : "";
+    const std::string place = sheets::of_reading(refusal) ? " at byte " + grouped(position(sheet)) : "";
     return numbers + place + ": " + sheets::sentence(refusal);
 }
 
 // The verdict on a sheet behind the name of its file.
-std::string line(const std::string &path, const sheets::Bytes &sheet, const Verdict &verdict) {
+std::string line(const std::string &path, const Sheet &sheet, const Verdict &verdict) {
     const std::string name = names::shown(path);
     if (verdict.finding == Finding::Clean) return name + ": clean\n";
     if (verdict.finding == Finding::Repair) return name + ": repair\n";
@@ -93,23 +107,23 @@ Status status(const Verdict &verdict) {
 // What is printed for a file: its verdict line, its listing, or its name and its listing.
 enum class Print { Line, Listing, Named };
 
-Status judged(const std::string &path, Print print) {
-    const sheets::Bytes sheet = files::read(path);
+Status judged(const std::string &path, Mode mode, Print print) {
+    const Sheet sheet = {files::read(path), mode};
     if (print == Print::Line) {
-        const Verdict verdict = sheets::verdict(sheet.data(), sheet.size());
-        put(line(path, sheet, verdict));
-        return status(verdict);
+        const Verdict found = verdict(sheet);
+        put(line(path, sheet, found));
+        return status(found);
     }
-    const std::string listing = sheets::listing(sheet.data(), sheet.size());
-    put((print == Print::Named ? names::shown(path) + ":\n" : "") + listing);
-    const Verdict verdict = told(listing);
-    if (verdict.finding == Finding::Refused) say(line(path, sheet, verdict));
-    return status(verdict);
+    const std::string text = listing(sheet);
+    put((print == Print::Named ? names::shown(path) + ":\n" : "") + text);
+    const Verdict found = told(text);
+    if (found.finding == Finding::Refused) say(line(path, sheet, found));
+    return status(found);
 }
 
-Status check(const std::string &path, Print print) {
+Status check(const std::string &path, Mode mode, Print print) {
     try {
-        return judged(path, print);
+        return judged(path, mode, print);
     } catch (const files::Unread &reason) {
         const std::string unread = names::shown(path) + ": could not be read: " + reason.what() + '\n';
         print == Print::Line ? put(unread) : say(unread);
@@ -118,7 +132,7 @@ Status check(const std::string &path, Print print) {
 }
 
 // Checks the files in their order.
-int check_all(std::vector<std::string> paths, bool batch) {
+int check_all(std::vector<std::string> paths, Mode mode, bool batch) {
     if (paths.empty()) paths.push_back("-");
     if (std::count(paths.begin(), paths.end(), "-") > 1) {
         say("checker: standard input can be named only once\n");
@@ -126,13 +140,14 @@ int check_all(std::vector<std::string> paths, bool batch) {
     }
     const Print print = batch ? Print::Line : paths.size() == 1 ? Print::Listing : Print::Named;
     int worst = Clean;
-    for (const std::string &path : paths) worst = std::max<int>(worst, check(path, print));
+    for (const std::string &path : paths) worst = std::max<int>(worst, check(path, mode, print));
     return worst;
 }
 
 // Does what the words of the command say.
 int run(const std::vector<std::string> &words) {
     bool batch = false, only_files = false;
+    Mode mode = Mode::Present;
     std::vector<std::string> paths;
     for (const std::string &word : words) {
         if (only_files || word == "-" || word.substr(0, 1) != "-") {
@@ -145,6 +160,8 @@ int run(const std::vector<std::string> &words) {
             return Clean;
         } else if (word == "--batch") {
             batch = true;
+        } else if (word == "--older") {
+            mode = Mode::Older;
         } else if (word == "--") {
             only_files = true;
         } else {
@@ -153,7 +170,7 @@ int run(const std::vector<std::string> &words) {
             return Unreadable;
         }
     }
-    return check_all(paths, batch);
+    return check_all(paths, mode, batch);
 }
 
 // The command's words, and the status to end with.

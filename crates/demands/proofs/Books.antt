@@ -17,12 +17,12 @@ use Rattle.listing_figures.specs.Standings.{isSingle, owing}
 use Rattle.listing.specs.Listing.{gapsOf, overlapsOf}
 
 -- Bytes come to a judged sheet: a sheet with owners for each triangle.
-module _ (s : List ℕ) (j : Judged) (e : judgedSheet s ≡ value j) where
+module _ (mode : ℕ) (s : List ℕ) (j : Judged) (e : judgedSheet mode s ≡ value j) where
   -- The double areas of all polygons, from their corners alone, add up to the sum over the triangles of double area times number of owners.
   pub books-balance : sum doubleArea (j .sheet .polygons) ≡ owing (j .sheet .table) (j .owners)
-  books-balance = Figures.books-balance (judged-value s j .0 e .1)
+  books-balance = Figures.books-balance (judged-value mode s j .0 e .1)
 
   -- The frame's double area is that of the triangles with one owner, plus gaps, plus overlaps.
   pub frame-balance : doubleArea ((rectangle (frameOf (corners (j .sheet .table))) ∷ []) ∷ [])
       ≡ sum double (chosen (j .sheet .table) (map (λ o. isSingle (standingBy o)) (j .owners))) +ℤ sum double (gapsOf (j .sheet .table) (j .owners)) +ℤ sum double (overlapsOf (j .sheet .table) (j .owners))
-  frame-balance = Figures.frame-balance (judged-value s j .0 e .1)
+  frame-balance = Figures.frame-balance (judged-value mode s j .0 e .1)

@@ -14,7 +14,7 @@ use Rattle.whole.proofs.Sums.{and-left, and-right, and-both, every-all}
 use Rattle.lent.specs.Stages.{refused}
 use Rattle.sheet.proofs.Refusals.{Lawful}
 use Rattle.sheet_form.specs.Numbers.{members}
-use Rattle.sheet.specs.Read.{readSheet}
+use Rattle.sheet_modes.specs.Modes.{readBy}
 use Rattle.demands.specs.Refusals.{Row, alone, rows, inRow, Listed}
 use Rattle.demands.specs.Entries.{Entry, numbers, position, write, ownerSets, owners, boundary, listing, outcomeOf}
 use Rattle.demands.specs.Answers.{Refused, unread, breaks-A, breaks-B, breaks-C, not-carried, no-ground}
@@ -90,33 +90,37 @@ lawful-listed (suc (suc (suc (suc (suc (suc (suc zero))))))) item h = in-row 6 i
 lawful-listed (suc (suc (suc (suc (suc (suc (suc (suc zero)))))))) item h = in-row 7 item (omega arith) (omega arith) (leb→le item 65 (h .1))
 lawful-listed (suc (suc (suc (suc (suc (suc (suc (suc (suc code))))))))) item h = absurd (no-higher (suc (suc (suc (suc (suc (suc (suc (suc (suc code))))))))) item (omega arith) (h .1))
 
+-- A code of the table whose item is 0.
+alone-listed : (i : ℕ) → i < length rows → row i .from ≡ 0 → {code item : ℕ} → code ≡ row i .code → item ≡ 0 → Listed code item
+alone-listed i h e {code} {item} c z = subst (λ n. Listed n item) (sym c) (in-row i item h (omega arith) (omega arith))
+
 -- ---- from the entries
-module _ (s : List ℕ) (all : All (λ b. b < 256) s) where
-  unread-listed : (code item : ℕ) → readSheet members s ≡ refused code item → Listed code item
-  unread-listed code item e = lawful-listed code item (read-lawful s code item e)
+module _ (mode : ℕ) (s : List ℕ) (all : All (λ b. b < 256) s) where
+  unread-listed : (code item : ℕ) → readBy members mode s ≡ refused code item → Listed code item
+  unread-listed code item e = ⊎-elim (λ (c, i). alone-listed 18 (omega arith) refl c i) (lawful-listed code item) (read-lawful mode s code item e)
 
-  refused-listed : {code item : ℕ} → Refused s code item → Listed code item
+  refused-listed : {code item : ℕ} → Refused mode s code item → Listed code item
   refused-listed (unread {code} {item} e) = unread-listed code item e
-  refused-listed (breaks-A {k} n p f) = in-row 8 k (omega arith) (f .low) (omega (arith, f .high, read-limits s all n p .few))
-  refused-listed (breaks-B {k} n p a f) = in-row 9 k (omega arith) (f .low) (omega (arith, f .high, read-limits s all n p .few))
+  refused-listed (breaks-A {k} n p f) = in-row 8 k (omega arith) (f .low) (omega (arith, f .high, read-limits mode s all n p .few))
+  refused-listed (breaks-B {k} n p a f) = in-row 9 k (omega arith) (f .low) (omega (arith, f .high, read-limits mode s all n p .few))
   refused-listed (breaks-C n p a b c) = in-row 10 0 (omega arith) (omega arith) (omega arith)
-  refused-listed (not-carried {k} n p r f) = in-row 11 k (omega arith) (f .low) (omega (arith, f .high, read-limits s all n p .few-polygons))
-  refused-listed (no-ground {k} n p r f) = in-row 12 k (omega arith) (f .low) (omega (arith, f .high, read-limits s all n p .few-polygons))
+  refused-listed (not-carried {k} n p r f) = in-row 11 k (omega arith) (f .low) (omega (arith, f .high, read-limits mode s all n p .few-polygons))
+  refused-listed (no-ground {k} n p r f) = in-row 12 k (omega arith) (f .low) (omega (arith, f .high, read-limits mode s all n p .few-polygons))
 
-  -- A code of the table whose item is 0.
-  alone-listed : (i : ℕ) → i < length rows → row i .from ≡ 0 → {code item : ℕ} → code ≡ row i .code → item ≡ 0 → Listed code item
-  alone-listed i h e {code} {item} c z = subst (λ n. Listed n item) (sym c) (in-row i item h (omega arith) (omega arith))
-
+-- An entry, in its mode.
+module _ (s : List ℕ) (all : All (λ b. b < 256) s) where
   pub outcome-listed : (e : Entry) (code item : ℕ) → outcomeOf e s ≡ refused code item → Listed code item
-  outcome-listed numbers code item q = unread-listed code item (numbers-refuses s all code item .0 q)
-  outcome-listed (position mode) code item q = absurd (position-refuses-nothing s all mode code item q)
+  outcome-listed (numbers mode) code item q = unread-listed mode s all code item (numbers-refuses mode s all code item .0 q)
+  outcome-listed (position mode) code item q = absurd (position-refuses-nothing mode s all code item q)
   outcome-listed write code item q = let (c, i, f) = write-refuses s all code item .0 q in alone-listed 16 (omega arith) refl c i
-  outcome-listed ownerSets code item q = refused-listed (owner-sets-refuses s all code item .0 q)
-  outcome-listed owners code item q = ⊎-elim refused-listed (λ (c, i, n, sets, h, z). alone-listed 13 (omega arith) refl c i) (owners-refuses s all code item .0 q)
-  outcome-listed (boundary k) code item q =
-      ⊎-elim refused-listed (⊎-elim (λ (c, i, n, sets, h, off). alone-listed 15 (omega arith) refl c i) (λ (c, i, n, sets, h, on, z). alone-listed 13 (omega arith) refl c i))
-      (boundary-refuses s all k code item .0 q)
-  outcome-listed listing code item q = absurd (listing-refuses-nothing s all code item q)
+  outcome-listed (ownerSets mode) code item q = refused-listed mode s all (owner-sets-refuses mode s all code item .0 q)
+  outcome-listed (owners mode way) code item q =
+      ⊎-elim (refused-listed mode s all) (⊎-elim (λ h. alone-listed 17 (omega arith) refl (h .0) (h .1)) (λ h. alone-listed 13 (omega arith) refl (h .0) (h .1))) (owners-refuses mode s all way code item .0 q)
+  outcome-listed (boundary mode way k) code item q =
+      ⊎-elim (refused-listed mode s all)
+      (⊎-elim (λ h. alone-listed 15 (omega arith) refl (h .0) (h .1)) (⊎-elim (λ h. alone-listed 17 (omega arith) refl (h .0) (h .1)) (λ h. alone-listed 13 (omega arith) refl (h .0) (h .1))))
+      (boundary-refuses mode s all way k code item .0 q)
+  outcome-listed (listing mode way) code item q = absurd (listing-refuses-nothing mode s all way code item q)
 
 -- The code of an answer that is too long.
 pub short-listed : Listed 40 0

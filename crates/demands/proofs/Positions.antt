@@ -6,7 +6,7 @@ use mathlib.Core.Bool.{Bool, true, false}
 use mathlib.Core.List.{List}
 use Prim.Native.Nat.{ℕ, _+_, _*_, _≤_, _<_}
 use native.Mathlib.Omega.{arith}
-use borrow.Author.Tests.{eqb-true, eqb-false, ne-eqb, le-leb}
+use borrow.Author.Tests.{eqb-true, eqb-false, le-leb}
 use lib.Dec.{eqb}
 use lib.ListN.{length, take}
 use Rattle.whole.specs.Sums.{All}
@@ -27,7 +27,10 @@ use Rattle.sheet_positions.proofs.Steps as steps
 use Rattle.sheet_positions.proofs.Exactly.{EndsWith, refused-exactly, read-nowhere, within-bytes}
 use Rattle.sheet_positions.proofs.Front.{front-read}
 use Rattle.sheet_written.proofs.Held.{read-refused, read-sheet-is, read-held}
-use Rattle.outcomes.specs.Entries.{formOf, formOutcome, withRoom, telling, sheetNumbers, sheetPosition, goesOn, sheetListing, textOutcome}
+use Rattle.sheet_modes.specs.Modes.{Edition, editionOf, readBy, positionIn}
+use Rattle.sheet_modes.proofs.Modes.{by-value, by-refused, mode-refused}
+use Rattle.outcomes.specs.Entries.{formOf, formOutcome, withRoom, telling, sheetPosition}
+use Rattle.outcomes.proofs.Position.{position-unknown}
 use Rattle.demands.specs.Answers.{Refused, unread, breaks-A, breaks-B, breaks-C, not-carried, no-ground}
 use Rattle.demands.specs.Positions.{NextAfter, Enough, ReadsSheet}
 use Rattle.demands.specs.Entries.{Entry, numbers, position, write, ownerSets, owners, boundary, listing, outcomeOf}
@@ -87,28 +90,30 @@ module _ (s : List ℕ) (all : All (λ b. b < 256) s) where
       (n, r)
 
   -- ---- "The packed answer stays; the position, 0 for any other answer, comes from a second entry that agrees with it on code and item for every input."
-  -- What is told of bytes at fault,
-  pub tells-fault : (code item position : ℕ) → FaultIn members s code item position → sheetPosition 0 s ≡ telling (item * 256 + code) position
-  tells-fault code item at f =
-      let r = refused-where code item .1 (at, f) in
-      ap₂ telling (ap (λ (a : Answer Sheet). withRoom (andThen a formOutcome)) r) (refused-exactly members s code item at .1 f .0 .position-is)
+  -- What is told of bytes at fault in a known mode,
+  pub tells-fault : (mode : ℕ) (edition : Edition) → editionOf mode ≡ value edition → (code item position : ℕ) → FaultIn members s code item position → sheetPosition mode s ≡ telling (item * 256 + code) position
+  tells-fault mode edition known code item at f =
+      let r = by-refused members s mode code item .1 (inr (edition, known, refused-where code item .1 (at, f))) in
+      ap₂ telling (ap (λ (a : Answer Sheet). withRoom (andThen a formOutcome)) r) (ap (λ a. positionIn a s) known ∙ refused-exactly members s code item at .1 f .0 .position-is)
 
   -- and of a sheet that is read;
-  pub tells-read : (n : Sheet) → readSheet members s ≡ value n → sheetPosition 0 s ≡ telling (length (formOf n) * 256) 0
-  tells-read n r = ap₂ telling (ap (λ (a : Answer Sheet). withRoom (andThen a formOutcome)) r) (read-nowhere members s (read-sheet-is members s n .0 r .0))
+  pub tells-read : (mode : ℕ) (n : Sheet) → readBy members mode s ≡ value n → sheetPosition mode s ≡ telling (length (formOf n) * 256) 0
+  tells-read mode n r =
+      let (edition, known, m, p, t) = by-value members s mode n .0 r in
+      ap₂ telling (ap (λ (a : Answer Sheet). withRoom (andThen a formOutcome)) r) (ap (λ a. positionIn a s) known ∙ read-nowhere members s (read-sheet-is members s m .0 p .0))
 
--- in another mode it is 57, and no position.
-pub tells-mode : (mode : ℕ) (s : List ℕ) → (mode ≡ 0 → ⊥) → sheetPosition mode s ≡ telling 57 0
-tells-mode mode s h = rw (ne-eqb mode 0 h)
+-- in an unknown mode it is 57, and no position.
+pub tells-mode : (mode : ℕ) (s : List ℕ) → 1 < mode → sheetPosition mode s ≡ telling 57 0
+tells-mode = position-unknown
 
 -- The number told is the one that the numbers entry answers where enough bytes are lent.
 pub agrees : (o : Outcome) (lent : List ℕ) → Enough o lent → answerOf o lent ≡ withRoom o
 agrees (value w) lent h = rw (le-leb (length (w .text)) (length lent) h)
 agrees (refused code item) lent h = refl
 
--- ---- the other entries that read a sheet are refused with codes 1 to 8 as the numbers entry is
-module _ (s : List ℕ) (all : All (λ b. b < 256) s) (code item : ℕ) (low : code ≤ 8) where
-  by-reading : {c i : ℕ} → Refused s c i → c ≤ 8 → readSheet members s ≡ refused c i
+-- ---- the other entries that read a sheet are refused with codes 1 to 8 as reading in their mode is
+module _ (mode : ℕ) (s : List ℕ) (all : All (λ b. b < 256) s) (code item : ℕ) (low : code ≤ 8) where
+  by-reading : {c i : ℕ} → Refused mode s c i → c ≤ 8 → readBy members mode s ≡ refused c i
   by-reading (unread e) l = e
   by-reading (breaks-A n p f) l = absurd (omega arith)
   by-reading (breaks-B n p a f) l = absurd (omega arith)
@@ -116,17 +121,27 @@ module _ (s : List ℕ) (all : All (λ b. b < 256) s) (code item : ℕ) (low : c
   by-reading (not-carried n p r f) l = absurd (omega arith)
   by-reading (no-ground n p r f) l = absurd (omega arith)
 
-  pub same-in-all : (e : Entry) → ReadsSheet e → (outcomeOf e s ≡ refused code item) ↔ (readSheet members s ≡ refused code item)
-  same-in-all numbers r = numbers-refuses s all code item
-  same-in-all (position mode) r = absurd r
+  pub same-in-all : (e : Entry) → ReadsSheet mode e → (outcomeOf e s ≡ refused code item) ↔ (readBy members mode s ≡ refused code item)
+  same-in-all (numbers m) r = subst (λ k. (outcomeOf (numbers k) s ≡ refused code item) ↔ (readBy members mode s ≡ refused code item)) (sym r) (numbers-refuses mode s all code item)
+  same-in-all (position m) r = absurd r
   same-in-all write r = absurd r
-  same-in-all ownerSets r = (λ q. by-reading (owner-sets-refuses s all code item .0 q) low, λ e. owner-sets-refuses s all code item .1 (unread e))
-  same-in-all owners r = (
-    λ q. by-reading (⊎-elim (λ f. f) (λ h. absurd (omega (arith, h .0))) (owners-refuses s all code item .0 q)) low,
-    λ e. owners-refuses s all code item .1 (inl (unread e)),
+  same-in-all (ownerSets m) r = subst (λ k. (outcomeOf (ownerSets k) s ≡ refused code item) ↔ (readBy members mode s ≡ refused code item)) (sym r) (
+    λ q. by-reading (owner-sets-refuses mode s all code item .0 q) low,
+    λ e. owner-sets-refuses mode s all code item .1 (unread e),
   )
-  same-in-all (boundary k) r = (
-    λ q. by-reading (⊎-elim (λ f. f) (⊎-elim (λ h. absurd (omega (arith, h .0))) (λ h. absurd (omega (arith, h .0)))) (boundary-refuses s all k code item .0 q)) low,
-    λ e. boundary-refuses s all k code item .1 (inl (unread e)),
+  same-in-all (owners m way) r = subst (λ k. (outcomeOf (owners k way) s ≡ refused code item) ↔ (readBy members mode s ≡ refused code item)) (sym r) (
+    λ q. by-reading (⊎-elim (λ f. f) (⊎-elim (λ h. absurd (omega (arith, h .0))) (λ h. absurd (omega (arith, h .0)))) (owners-refuses mode s all way code item .0 q)) low,
+    λ e. owners-refuses mode s all way code item .1 (inl (unread e)),
   )
-  same-in-all listing r = absurd r
+  same-in-all (boundary m way k) r = subst (λ z. (outcomeOf (boundary z way k) s ≡ refused code item) ↔ (readBy members mode s ≡ refused code item)) (sym r) (
+    λ q. by-reading (⊎-elim (λ f. f) (⊎-elim (λ h. absurd (omega (arith, h .0))) (⊎-elim (λ h. absurd (omega (arith, h .0))) (λ h. absurd (omega (arith, h .0))))) (boundary-refuses mode s all way k code item .0 q)) low,
+    λ e. boundary-refuses mode s all way k code item .1 (inl (unread e)),
+  )
+  same-in-all (listing m way) r = absurd r
+
+  -- and the modes that are known read with the same refusals.
+  pub same-in-modes : (edition : Edition) → editionOf mode ≡ value edition → (readBy members mode s ≡ refused code item) ↔ (readSheet members s ≡ refused code item)
+  same-in-modes edition known = (
+    λ e. ⊎-elim (λ p. absurd (omega (arith, mode-refused mode code item p .0))) (λ (i, p, r). r) (by-refused members s mode code item .0 e),
+    λ r. by-refused members s mode code item .1 (inr (edition, known, r)),
+  )

@@ -1,6 +1,6 @@
 -- Demand 2: ".. repair and boundaries follow document 01", for every sheet that bytes come to. Assumes nothing.
 use mathlib.Core.Path.{_≡_, refl, subst}
-use mathlib.Core.Logic.{_↔_}
+use mathlib.Core.Logic.{_↔_, _⊎_}
 use mathlib.Core.List.{List, [], _∷_}
 use Prim.Native.Nat.{ℕ, _≤_, _<_}
 use native.Mathlib.Decide.{decLe}
@@ -26,27 +26,34 @@ use Rattle.repair_sides.specs.Sides.{trianglesOwned}
 use Rattle.sheet_form.specs.Numbers.{members}
 use Rattle.sheet.specs.Reading.{readingOf}
 use Rattle.sheet.specs.Held.{SheetHeld}
+use Rattle.sheet_written.specs.Normal.{written}
 use Rattle.judged.specs.Judged.{Judged, judgeSheet, judgedSheet, repairOf}
 use Rattle.judged.proofs.Stages.{judged-value}
 use Rattle.judged.proofs.Repaired
+use Rattle.judged.proofs.Ways
 use Rattle.outcomes.specs.Entries.{ownedSides}
 use Rattle.demands.proofs.Stages.{read-limits}
 
 -- Bytes come to a judged sheet: a sheet with owners for each triangle.
-module _ (s : List ℕ) (bytes : All (λ b. b < 256) s) (j : Judged) (e : judgedSheet s ≡ value j) where
+module _ (mode : ℕ) (s : List ℕ) (bytes : All (λ b. b < 256) s) (j : Judged) (e : judgedSheet mode s ≡ value j) where
   -- (It is judged so, and is within the limits.)
   comes : judgeSheet (j .sheet) ≡ value j
-  comes = judged-value s j .0 e .1
+  comes = judged-value mode s j .0 e .1
 
-  held : SheetHeld members (j .sheet) (readingOf members s .numbers)
-  held = read-limits s bytes (j .sheet) (judged-value s j .0 e .0)
+  held : SheetHeld members (j .sheet) (readingOf members (written (j .sheet)) .numbers)
+  held = read-limits mode s bytes (j .sheet) (judged-value mode s j .0 e .0)
+
+  -- ---- in a way
+  -- Repair in an unknown way is refused 54, item 0, before 30; in way 0 it is document 01's, of which the others speak.
+  pub in-a-way : (way code item : ℕ) → (repairOf way j ≡ refused code item) ↔ (((way ≡ 0 → ⊥) × (code ≡ 54) × (item ≡ 0)) ⊎ ((way ≡ 0) × (repairOf 0 j ≡ refused code item)))
+  in-a-way way = Ways.way-refused j way
 
   -- "Repair can't be done exactly if no triangle has an owner": 30, item 0, and no other refusal.
-  pub unrepaired : (code item : ℕ) → (repairOf j ≡ refused code item) ↔ ((code ≡ 30) × (item ≡ 0) × ((t : ℕ) → t < length (j .owners) → ownersAt (j .owners) t ≡ []))
+  pub unrepaired : (code item : ℕ) → (repairOf 0 j ≡ refused code item) ↔ ((code ≡ 30) × (item ≡ 0) × ((t : ℕ) → t < length (j .owners) → ownersAt (j .owners) t ≡ []))
   unrepaired = Repaired.unrepaired comes held
 
   -- So 30 is given exactly if the sheet has no polygons: a polygon that is refused neither way owns a triangle.
-  pub no-polygons : (repairOf j ≡ refused 30 0) ↔ (length (j .sheet .polygons) ≡ 0)
+  pub no-polygons : (repairOf 0 j ≡ refused 30 0) ↔ (length (j .sheet .polygons) ≡ 0)
   no-polygons = (λ r. to (decLe 1 (length (j .sheet .polygons))) (unrepaired 30 0 .0 r .2), λ z. unrepaired 30 0 .1 (refl, refl, λ t h. none z (ownersAt (j .owners) t) (all-at (All (λ k. (1 ≤ k) × (k ≤ length (j .sheet .polygons)))) [] (j .owners) t (Repaired.of-polygons comes) h)))
     where
       none : length (j .sheet .polygons) ≡ 0 → (o : List ℕ) → All (λ k. (1 ≤ k) × (k ≤ length (j .sheet .polygons))) o → o ≡ []
@@ -64,7 +71,7 @@ module _ (s : List ℕ) (bytes : All (λ b. b < 256) s) (j : Judged) (e : judged
 
   -- "The sheet is clean if every triangle has exactly one" owner: then repair has an answer and changes nothing.
   pub clean-kept : ((t : ℕ) → t < length (j .sheet .table) → length (ownersAt (j .owners) t) ≡ 1)
-      → (owners : List ℕ) × (repairOf j ≡ value owners) × ((t : ℕ) → t < length (j .sheet .table) → ownersAt (j .owners) t ≡ getD owners t 0 ∷ [])
+      → (owners : List ℕ) × (repairOf 0 j ≡ value owners) × ((t : ℕ) → t < length (j .sheet .table) → ownersAt (j .owners) t ≡ getD owners t 0 ∷ [])
   clean-kept clean =
       let opposite = opposites (sidesOf (j .sheet .table)) in
       let each = Repaired.owners-many comes in
@@ -74,11 +81,11 @@ module _ (s : List ℕ) (bytes : All (λ b. b < 256) s) (j : Judged) (e : judged
 
   -- "Triangles with one owner keep it. An overlap goes to its smallest owner number .. Then take each gap region ..: all of it goes to the
   -- largest number found across its sides once the overlaps are settled." These owner numbers are repair's answer, and no others are:
-  pub one-owner : (owners : List ℕ) → (repairOf j ≡ value owners) ↔ (OneOwner (opposites (sidesOf (j .sheet .table))) (j .owners) owners × LargestThere (opposites (sidesOf (j .sheet .table))) (j .owners) owners)
+  pub one-owner : (owners : List ℕ) → (repairOf 0 j ≡ value owners) ↔ (OneOwner (opposites (sidesOf (j .sheet .table))) (j .owners) owners × LargestThere (opposites (sidesOf (j .sheet .table))) (j .owners) owners)
   one-owner = Repaired.repaired-is comes held
 
   -- ---- for the owner numbers that repair answers
-  module _ (owners : List ℕ) (r : repairOf j ≡ value owners) where
+  module _ (owners : List ℕ) (r : repairOf 0 j ≡ value owners) where
     -- each is that of one of the sheet's polygons,
     pub polygons-own : All (λ k. (1 ≤ k) × (k ≤ length (j .sheet .polygons))) owners
     polygons-own = Repaired.after-polygons comes held owners r

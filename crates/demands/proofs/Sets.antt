@@ -28,7 +28,7 @@ use Rattle.owners.specs.Judging.{AreaOfOwnership}
 use Rattle.owners.proofs.Carried.{answered, answers}
 use Rattle.owners.proofs.Polygons.{EachCarried, all-carried as each-carried, marks-fit, each-at}
 use Rattle.sheet_form.specs.Numbers.{Sheet, members}
-use Rattle.sheet.specs.Read.{readSheet}
+use Rattle.sheet_modes.specs.Modes.{readBy}
 use Rattle.judged.specs.Judged.{Judged, judgedSheet}
 use Rattle.judged.proofs.Repaired.{owners-many}
 use Rattle.judged.proofs.Stages.{polygons-value, sheet-value, sheet-refused, judged-value, judged-refused}
@@ -57,14 +57,14 @@ each-of table area once (m ∷ ms) (s ∷ l) e h = (answers table m area once s 
         let e : suc (suc k) - 1 ≡ suc (suc k - 1) = omega arith in
         subst (λ i. AreaOfOwnership table (getD (m ∷ ms) i []) (getD (s ∷ l) i [])) e (h (suc (suc k)) (omega arith) (omega arith))
 
-module _ (s : List ℕ) where
+module _ (mode : ℕ) (s : List ℕ) where
   -- Bytes come to a judged sheet exactly if they have its owners.
-  pub has-owners : (n : Sheet) (owners : List (List ℕ)) → (judgedSheet s ≡ value (with-owners n owners)) ↔ HasOwners s n owners
+  pub has-owners : (n : Sheet) (owners : List (List ℕ)) → (judgedSheet mode s ≡ value (with-owners n owners)) ↔ HasOwners mode s n owners
   has-owners n owners = (to, from)
     where
-      to : judgedSheet s ≡ value (with-owners n owners) → HasOwners s n owners
+      to : judgedSheet mode s ≡ value (with-owners n owners) → HasOwners mode s n owners
       to e =
-          let (p, q) = judged-value s (with-owners n owners) .0 e in
+          let (p, q) = judged-value mode s (with-owners n owners) .0 e in
           let (i, c, o) = sheet-value n (with-owners n owners) .0 q in
           let (l, f, g) = polygons-value (n .table) (n .polygons) owners .0 o in
           let r = passes (frameEdges (n .table)) (n .table) .0 c in
@@ -78,19 +78,19 @@ module _ (s : List ℕ) where
             owners-are = sym g;
           }
 
-      from : HasOwners s n owners → judgedSheet s ≡ value (with-owners n owners)
+      from : HasOwners mode s n owners → judgedSheet mode s ≡ value (with-owners n owners)
       from h =
           let r = h .passes in
           let each = each-of (n .table) (r .0) (r .1) (n .polygons) (h .sets) (h .as-many) (h .of-polygon) in
-          judged-value s (with-owners n owners) .1 (
+          judged-value mode s (with-owners n owners) .1 (
             h .read,
             sheet-value n (with-owners n owners) .1
                 (refl, passes (frameEdges (n .table)) (n .table) .1 r, polygons-value (n .table) (n .polygons) owners .1 (h .sets, each-carried (n .table) (n .polygons) (h .sets) .1 each, sym (h .owners-are))),
           )
 
 -- There are owners for each triangle.
-pub owners-each : {s : List ℕ} {n : Sheet} {owners : List (List ℕ)} → HasOwners s n owners → length owners ≡ length (n .table)
-owners-each {s} {n} {owners} h = owners-many (judged-value s (with-owners n owners) .0 (has-owners s n owners .1 h) .1)
+pub owners-each : {mode : ℕ} {s : List ℕ} {n : Sheet} {owners : List (List ℕ)} → HasOwners mode s n owners → length owners ≡ length (n .table)
+owners-each {mode} {s} {n} {owners} h = owners-many (judged-value mode s (with-owners n owners) .0 (has-owners mode s n owners .1 h) .1)
 
 -- ---- owner sets
 -- Numbers of so many bits are told by their bits.
@@ -100,9 +100,9 @@ bits-tell (suc m) x y p q h =
     let r = bits-tell m (x / 2) (y / 2) (omega (arith, pow-suc 2 m)) (omega (arith, pow-suc 2 m)) (λ k l. sym (digit-suc x k) ∙ h (suc k) (omega arith) ∙ digit-suc y k) in
     omega (arith, h 0 (omega arith), digit-zero x, digit-zero y)
 
-module _ {s : List ℕ} {n : Sheet} where
+module _ {mode : ℕ} {s : List ℕ} {n : Sheet} where
   -- There is one list of owner sets at most.
-  one-list : {a b : List ℕ} → HasSets s n a → HasSets s n b → a ≡ b
+  one-list : {a b : List ℕ} → HasSets mode s n a → HasSets mode s n b → a ≡ b
   one-list {a} {b} p q =
       ext-getD 0 a b (p .each ∙ sym (q .each)) (λ t h.
       bits-tell (length (n .polygons)) (getD a t 0) (getD b t 0) (all-at _ 0 a t (p .no-others) h) (all-at _ 0 b t (q .no-others) (omega (arith, p .each, q .each))) (λ k l. same t h k l))
@@ -116,11 +116,11 @@ module _ {s : List ℕ} {n : Sheet} where
           (x t (omega (arith, o .of-table, p .each)) ∙ ap (λ l. bit (getD l t false)) (sym m) ∙ sym (y t (omega (arith, u .of-table, p .each))))
 
   -- The owners as sets.
-  sets-of : (owners : List (List ℕ)) → HasOwners s n owners → HasSets s n (map setOf owners)
+  sets-of : (owners : List (List ℕ)) → HasOwners mode s n owners → HasSets mode s n (map setOf owners)
   sets-of owners h =
       let r = h .passes in
       let fit = marks-fit (n .table) (r .0) (r .1) (n .polygons) (h .sets) (each-of (n .table) (r .0) (r .1) (n .polygons) (h .sets) (h .as-many) (h .of-polygon)) .1 in
-      subst (HasSets s n) (sets-are (length (n .table)) (h .sets) ∙ ap (map setOf) (sym (h .owners-are))) (record {
+      subst (HasSets mode s n) (sets-are (length (n .table)) (h .sets) ∙ ap (map setOf) (sym (h .owners-are))) (record {
         read = h .read;
         passes = r;
         each = length-owner-sets (length (n .table)) (h .sets) fit;
@@ -129,66 +129,66 @@ module _ {s : List ℕ} {n : Sheet} where
       })
 
   -- Owner sets are those of the owners.
-  pub has-sets : (sets : List ℕ) → ((owners : List (List ℕ)) × HasOwners s n owners × (sets ≡ map setOf owners)) ↔ HasSets s n sets
-  has-sets sets = (λ (owners, h, e). subst (HasSets s n) (sym e) (sets-of owners h), from)
+  pub has-sets : (sets : List ℕ) → ((owners : List (List ℕ)) × HasOwners mode s n owners × (sets ≡ map setOf owners)) ↔ HasSets mode s n sets
+  has-sets sets = (λ (owners, h, e). subst (HasSets mode s n) (sym e) (sets-of owners h), from)
     where
-      from : HasSets s n sets → (owners : List (List ℕ)) × HasOwners s n owners × (sets ≡ map setOf owners)
+      from : HasSets mode s n sets → (owners : List (List ℕ)) × HasOwners mode s n owners × (sets ≡ map setOf owners)
       from h =
-          let (owners, e) = all-sound s n .1 (h .read, passes (frameEdges (n .table)) (n .table) .1 (h .passes), λ k low high. let (marks, o, b) = h .bits k low high in ((marks, o .of-table, o .carries), o .ground)) in
-          let o = has-owners s n owners .0 e in
+          let (owners, e) = all-sound mode s n .1 (h .read, passes (frameEdges (n .table)) (n .table) .1 (h .passes), λ k low high. let (marks, o, b) = h .bits k low high in ((marks, o .of-table, o .carries), o .ground)) in
+          let o = has-owners mode s n owners .0 e in
           (owners, o, one-list h (sets-of owners o))
 
 -- ---- refusals
-module _ (s : List ℕ) where
+module _ (mode : ℕ) (s : List ℕ) where
   -- And they come to a refusal exactly if they are refused.
-  pub is-refused : (code item : ℕ) → (judgedSheet s ≡ refused code item) ↔ Refused s code item
+  pub is-refused : (code item : ℕ) → (judgedSheet mode s ≡ refused code item) ↔ Refused mode s code item
   is-refused code item = (to, from)
     where
-      by-table : (n : Sheet) → readSheet members s ≡ value n → checkTable (frameEdges (n .table)) (n .table) ≡ refused code item → Refused s code item
+      by-table : (n : Sheet) → readBy members mode s ≡ value n → checkTable (frameEdges (n .table)) (n .table) ≡ refused code item → Refused mode s code item
       by-table n p e = elim (refused-as (frameEdges (n .table)) (n .table) code item .0 e) [
-        | inl a ↦ subst (λ c. Refused s c item) (sym (a .0)) (breaks-A n p (refused-A (n .table) item .0 (e ∙ ap (λ c. refused c item) (a .0))))
-        | inr (inl b) ↦ let (r, f) = refused-B (n .table) item .0 (e ∙ ap (λ c. refused c item) (b .0)) in subst (λ c. Refused s c item) (sym (b .0)) (breaks-B n p r f)
-        | inr (inr c) ↦ subst (λ d. Refused s d item) (sym (c .0)) (subst (Refused s 12) (sym (c .1)) (breaks-C n p (c .2) (c .3) (c .4)))
+        | inl a ↦ subst (λ c. Refused mode s c item) (sym (a .0)) (breaks-A n p (refused-A (n .table) item .0 (e ∙ ap (λ c. refused c item) (a .0))))
+        | inr (inl b) ↦ let (r, f) = refused-B (n .table) item .0 (e ∙ ap (λ c. refused c item) (b .0)) in subst (λ c. Refused mode s c item) (sym (b .0)) (breaks-B n p r f)
+        | inr (inr c) ↦ subst (λ d. Refused mode s d item) (sym (c .0)) (subst (Refused mode s 12) (sym (c .1)) (breaks-C n p (c .2) (c .3) (c .4)))
       ]
 
-      to : judgedSheet s ≡ refused code item → Refused s code item
-      to e = elim (judged-refused s code item .0 e) [
+      to : judgedSheet mode s ≡ refused code item → Refused mode s code item
+      to e = elim (judged-refused mode s code item .0 e) [
         | inl r ↦ unread r
         | inr (n, p, q) ↦ elim (sheet-refused n code item .0 q) [
           | inl r ↦ by-table n p r
           | inr (r, f) ↦ elim (is-first (n .table) r (n .polygons) code item f) [
-            | inl (c, first) ↦ subst (λ c. Refused s c item) (sym c) (not-carried n p (passes (frameEdges (n .table)) (n .table) .0 r) first)
-            | inr (c, first) ↦ subst (λ c. Refused s c item) (sym c) (no-ground n p (passes (frameEdges (n .table)) (n .table) .0 r) first)
+            | inl (c, first) ↦ subst (λ c. Refused mode s c item) (sym c) (not-carried n p (passes (frameEdges (n .table)) (n .table) .0 r) first)
+            | inr (c, first) ↦ subst (λ c. Refused mode s c item) (sym c) (no-ground n p (passes (frameEdges (n .table)) (n .table) .0 r) first)
           ]
         ]
       ]
 
-      table-refused : (n : Sheet) (code item : ℕ) → readSheet members s ≡ value n → checkTable (frameEdges (n .table)) (n .table) ≡ refused code item → judgedSheet s ≡ refused code item
-      table-refused n code item p e = judged-refused s code item .1 (inr (n, p, sheet-refused n code item .1 (inl e)))
+      table-refused : (n : Sheet) (code item : ℕ) → readBy members mode s ≡ value n → checkTable (frameEdges (n .table)) (n .table) ≡ refused code item → judgedSheet mode s ≡ refused code item
+      table-refused n code item p e = judged-refused mode s code item .1 (inr (n, p, sheet-refused n code item .1 (inl e)))
 
-      from : {code item : ℕ} → Refused s code item → judgedSheet s ≡ refused code item
-      from (unread {code} {item} e) = judged-refused s code item .1 (inl e)
+      from : {code item : ℕ} → Refused mode s code item → judgedSheet mode s ≡ refused code item
+      from (unread {code} {item} e) = judged-refused mode s code item .1 (inl e)
       from (breaks-A {k} n p f) = table-refused n 10 k p (refused-A (n .table) k .1 f)
       from (breaks-B {k} n p a f) = table-refused n 11 k p (refused-B (n .table) k .1 (a, f))
       from (breaks-C n p a b c) = table-refused n 12 0 p (refused-C (n .table) 0 .1 (refl, a, b, c))
-      from (not-carried {k} n p r f) = first-refused s 20 k (inl refl) .1 (n, p, passes (frameEdges (n .table)) (n .table) .1 r, inl (refl, f))
-      from (no-ground {k} n p r f) = first-refused s 21 k (inr refl) .1 (n, p, passes (frameEdges (n .table)) (n .table) .1 r, inr (refl, f))
+      from (not-carried {k} n p r f) = first-refused mode s 20 k (inl refl) .1 (n, p, passes (frameEdges (n .table)) (n .table) .1 r, inl (refl, f))
+      from (no-ground {k} n p r f) = first-refused mode s 21 k (inr refl) .1 (n, p, passes (frameEdges (n .table)) (n .table) .1 r, inr (refl, f))
 
   -- ---- what an entry goes on to
   module _ {A : Type 0} (next : Judged → Answer A) where
-    pub answers-on : (a : A) → (andThen (judgedSheet s) next ≡ value a) ↔ ((n : Sheet) × (owners : List (List ℕ)) × HasOwners s n owners × (next (with-owners n owners) ≡ value a))
+    pub answers-on : (a : A) → (andThen (judgedSheet mode s) next ≡ value a) ↔ ((n : Sheet) × (owners : List (List ℕ)) × HasOwners mode s n owners × (next (with-owners n owners) ≡ value a))
     answers-on a = (
-      λ e. let (j, p, q) = chain-value (judgedSheet s) next a .0 e in (j .sheet, j .owners, has-owners s (j .sheet) (j .owners) .0 p, q),
-      λ (n, owners, h, q). chain-value (judgedSheet s) next a .1 (with-owners n owners, has-owners s n owners .1 h, q),
+      λ e. let (j, p, q) = chain-value (judgedSheet mode s) next a .0 e in (j .sheet, j .owners, has-owners mode s (j .sheet) (j .owners) .0 p, q),
+      λ (n, owners, h, q). chain-value (judgedSheet mode s) next a .1 (with-owners n owners, has-owners mode s n owners .1 h, q),
     )
 
-    pub refuses-on : (code item : ℕ) → (andThen (judgedSheet s) next ≡ refused code item)
-        ↔ (Refused s code item ⊎ ((n : Sheet) × (owners : List (List ℕ)) × HasOwners s n owners × (next (with-owners n owners) ≡ refused code item)))
+    pub refuses-on : (code item : ℕ) → (andThen (judgedSheet mode s) next ≡ refused code item)
+        ↔ (Refused mode s code item ⊎ ((n : Sheet) × (owners : List (List ℕ)) × HasOwners mode s n owners × (next (with-owners n owners) ≡ refused code item)))
     refuses-on code item = (to, from)
       where
-        to : andThen (judgedSheet s) next ≡ refused code item → Refused s code item ⊎ ((n : Sheet) × (owners : List (List ℕ)) × HasOwners s n owners × (next (with-owners n owners) ≡ refused code item))
-        to e = elim (chain-refused (judgedSheet s) next code item .0 e) [ inl p ↦ inl (is-refused code item .0 p) | inr (j, p, q) ↦ inr (j .sheet, j .owners, has-owners s (j .sheet) (j .owners) .0 p, q) ]
+        to : andThen (judgedSheet mode s) next ≡ refused code item → Refused mode s code item ⊎ ((n : Sheet) × (owners : List (List ℕ)) × HasOwners mode s n owners × (next (with-owners n owners) ≡ refused code item))
+        to e = elim (chain-refused (judgedSheet mode s) next code item .0 e) [ inl p ↦ inl (is-refused code item .0 p) | inr (j, p, q) ↦ inr (j .sheet, j .owners, has-owners mode s (j .sheet) (j .owners) .0 p, q) ]
 
-        from : Refused s code item ⊎ ((n : Sheet) × (owners : List (List ℕ)) × HasOwners s n owners × (next (with-owners n owners) ≡ refused code item)) → andThen (judgedSheet s) next ≡ refused code item
-        from (inl r) = chain-refused (judgedSheet s) next code item .1 (inl (is-refused code item .1 r))
-        from (inr (n, owners, h, q)) = chain-refused (judgedSheet s) next code item .1 (inr (with-owners n owners, has-owners s n owners .1 h, q))
+        from : Refused mode s code item ⊎ ((n : Sheet) × (owners : List (List ℕ)) × HasOwners mode s n owners × (next (with-owners n owners) ≡ refused code item)) → andThen (judgedSheet mode s) next ≡ refused code item
+        from (inl r) = chain-refused (judgedSheet mode s) next code item .1 (inl (is-refused code item .1 r))
+        from (inr (n, owners, h, q)) = chain-refused (judgedSheet mode s) next code item .1 (inr (with-owners n owners, has-owners mode s n owners .1 h, q))

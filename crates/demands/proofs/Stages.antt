@@ -1,9 +1,12 @@
--- What reading tells: its refusals have document 01's codes for reading, and a sheet that is read is within the limits. Assumes nothing.
+-- What reading in a mode tells: its refusals have document 01's codes for reading, or 57, and a sheet that is read is within the limits. The idea: a sheet within
+-- the limits is read from its own normal bytes, as it is held. Assumes nothing.
 use mathlib.Core.Path.{_≡_, refl, sym, _∙_, subst}
+use mathlib.Core.Logic.{_⊎_, inl, inr}
 use mathlib.Core.Bool.{Bool, true, false, cond}
 use mathlib.Core.List.{List, map}
 use mathlib.Core.Option.{Option, none, some}
 use Prim.Native.Nat.{ℕ, _≤_, _<_}
+use native.Mathlib.Decide.{decLe}
 use native.Mathlib.Omega.{arith}
 use borrow.Author.Tests.{eqb-false, ne-eqb, lt-leb}
 use lib.Dec.{eqb}
@@ -17,12 +20,16 @@ use Rattle.sheet.specs.Reading.{readingOf}
 use Rattle.sheet.specs.Held.{SheetHeld}
 use Rattle.sheet.specs.Read.{made, readSheet}
 use Rattle.sheet.proofs.Refusals.{Lawful, reading-lawful}
-use Rattle.sheet_written.proofs.Held.{read-sheet-is, reads-held}
+use Rattle.sheet_written.specs.Normal.{written}
+use Rattle.sheet_written.proofs.Held.{reads-held}
+use Rattle.sheet_written.proofs.Trip.{written-bytes, round-trip}
+use Rattle.sheet_modes.specs.Modes.{readBy}
+use Rattle.sheet_modes.proofs.Modes.{by-refused, by-fits, mode-refused}
 
 -- A refusal of reading has a code that document 01 gives for reading, with its item.
-pub read-lawful : (s : List ℕ) (code item : ℕ) → readSheet members s ≡ refused code item → (code ≡ 0 → ⊥) × Lawful members code item
+lawful : (s : List ℕ) (code item : ℕ) → readSheet members s ≡ refused code item → (code ≡ 0 → ⊥) × Lawful members code item
 unfolding readSheet
-read-lawful s code item e = go (eqb (readingOf members s .code) 0) refl (sheetIn (map millimetres (readingOf members s .numbers))) e
+lawful s code item e = go (eqb (readingOf members s .code) 0) refl (sheetIn (map millimetres (readingOf members s .numbers))) e
   where
     go : (b : Bool) → eqb (readingOf members s .code) 0 ≡ b → (o : Option Sheet) → cond b (made o) (refused (readingOf members s .code) (readingOf members s .item)) ≡ refused code item
         → (code ≡ 0 → ⊥) × Lawful members code item
@@ -34,10 +41,23 @@ read-lawful s code item e = go (eqb (readingOf members s .code) 0) refl (sheetIn
         let (c, i) = same-refusal {A = Sheet} (readingOf members s .code) (readingOf members s .item) code item .0 e in
         (λ z. eqb-false (readingOf members s .code) 0 q (sym c ∙ z), subst (Lawful members code) (sym i) (subst (λ c. Lawful members c (readingOf members s .item)) (sym c) (reading-lawful members s)))
 
--- A sheet that is read is within the limits.
-pub read-limits : (s : List ℕ) → All (λ b. b < 256) s → (n : Sheet) → readSheet members s ≡ value n → SheetHeld members n (readingOf members s .numbers)
-read-limits s bytes n e = reads-held members (omega arith) s bytes n (read-sheet-is members s n .0 e) .0
-
 -- No code of reading is above 8.
 pub no-higher : (code item : ℕ) → 9 ≤ code → Lawful members code item → ⊥
 no-higher code item h = rw (ne-eqb code 0 (λ e. omega arith), ne-eqb code 7 (λ e. omega arith), lt-leb code 8 h) (λ t. t)
+
+-- In a mode: 57 with item 0 where the mode is unknown, else as reading.
+pub read-lawful : (mode : ℕ) (s : List ℕ) (code item : ℕ) → readBy members mode s ≡ refused code item → ((code ≡ 57) × (item ≡ 0)) ⊎ ((code ≡ 0 → ⊥) × Lawful members code item)
+read-lawful mode s code item e = elim (by-refused members s mode code item .0 e) [ inl p ↦ inl (mode-refused mode code item p) | inr (edition, p, r) ↦ inr (lawful s code item r) ]
+
+pub read-low : (mode : ℕ) (s : List ℕ) (code item : ℕ) → readBy members mode s ≡ refused code item → (code ≡ 57) ⊎ (code ≤ 8)
+read-low mode s code item e = elim (read-lawful mode s code item e) [ inl p ↦ inl (p .0) | inr p ↦ inr (go (decLe 9 code) (p .1)) ]
+  where
+    go : Dec (9 ≤ code) → Lawful members code item → code ≤ 8
+    go (yes h) l = absurd (no-higher code item h l)
+    go (no h) l = omega arith
+
+-- A sheet that is read in a mode is within the limits.
+pub read-limits : (mode : ℕ) (s : List ℕ) → All (λ b. b < 256) s → (n : Sheet) → readBy members mode s ≡ value n → SheetHeld members n (readingOf members (written n) .numbers)
+read-limits mode s bytes n e =
+    let fits = by-fits members s (omega arith) bytes mode n e in
+    reads-held members (omega arith) (written n) (written-bytes n) n (round-trip members (omega arith) n fits) .0

@@ -14,6 +14,8 @@ use Rattle.sheet.specs.Reading.{readingOf}
 use Rattle.sheet_standard.specs.Limits.{SheetFits, sheetOf}
 use Rattle.sheet_written.specs.Fits.{sheetFits}
 use Rattle.sheet.specs.Read.{readSheet}
+use Rattle.sheet_modes.specs.Modes.{readBy}
+use Rattle.sheet_modes.proofs.Modes.{by-present, by-fits}
 use Rattle.sheet_written.specs.Normal.{written}
 use Rattle.sheet_written.proofs.Given.{form-bytes}
 use Rattle.sheet_written.proofs.Held.{read-sheet-is}
@@ -45,16 +47,16 @@ equal-bytes s t m n p q = Trip.equal-bytes members s t m n (read-sheet-is member
 pub write-form : (n : Sheet) → T (sheetFits members n) → outcomeOf write (formOf n) ≡ bytes (length (written n)) (written n)
 write-form n h = write-answers (formOf n) (form-bytes (numbersOf n)) _ _ .1 (n, h, refl, refl, refl)
 
--- Whatever is read can be written: given what the numbers entry answers, the writer answers the normal bytes of the sheet that was read.
-pub numbers-then-write : (s : List ℕ) → All (λ b. b < 256) s → (item : ℕ) (l : List ℕ) → outcomeOf numbers s ≡ bytes item l
-    → (n : Sheet) × (readSheet members s ≡ value n) × (outcomeOf write l ≡ bytes (length (written n)) (written n))
-numbers-then-write s all item l q =
-    let (n, r, e, i) = numbers-answers s all item l .0 q in
-    (n, r, ap (outcomeOf write) e ∙ write-form n (read-fits s all n r))
+-- Whatever is read can be written: given what the numbers entry answers in any mode, the writer answers the normal bytes of the sheet that was read.
+pub numbers-then-write : (mode : ℕ) (s : List ℕ) → All (λ b. b < 256) s → (item : ℕ) (l : List ℕ) → outcomeOf (numbers mode) s ≡ bytes item l
+    → (n : Sheet) × (readBy members mode s ≡ value n) × (outcomeOf write l ≡ bytes (length (written n)) (written n))
+numbers-then-write mode s all item l q =
+    let (n, r, e, i) = numbers-answers mode s all item l .0 q in
+    (n, r, ap (outcomeOf write) e ∙ write-form n (by-fits members s (omega arith) all mode n r))
 
 -- "Reading a written sheet gives the same numbers back": given what the writer answers, the numbers entry answers what the writer was given, byte by
--- byte.
-pub same-bytes : (s : List ℕ) → All (λ b. b < 256) s → (item : ℕ) (l : List ℕ) → outcomeOf write s ≡ bytes item l → outcomeOf numbers l ≡ bytes (length s) s
+-- byte. "The same numbers back in demand 2 are those of the present mode."
+pub same-bytes : (s : List ℕ) → All (λ b. b < 256) s → (item : ℕ) (l : List ℕ) → outcomeOf write s ≡ bytes item l → outcomeOf (numbers 0) l ≡ bytes (length s) s
 same-bytes s all item l q =
     let (n, t, f, e, i) = write-answers s all item l .0 q in
-    ap (outcomeOf numbers) e ∙ numbers-answers (written n) (written-bytes n) (length s) s .1 (n, round-trip n t, sym f, ap length (sym f))
+    ap (outcomeOf (numbers 0)) e ∙ numbers-answers 0 (written n) (written-bytes n) (length s) s .1 (n, by-present members (written n) ∙ round-trip n t, sym f, ap length (sym f))

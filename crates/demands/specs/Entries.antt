@@ -2,34 +2,35 @@
 use mathlib.Core.List.{List}
 use Prim.Native.Nat.{ℕ}
 use Rattle.lent.specs.Answered.{Outcome}
-use Rattle.outcomes.specs.Entries.{sheetNumbers, sheetPosition, sheetWrite, sheetOwnerSets, sheetOwners, sheetBoundary, sheetListing}
+use Rattle.outcomes.specs.Entries.{sheetNumbersBy, sheetPosition, sheetWrite, sheetOwnerSetsBy, sheetOwnersBy, sheetBoundaryBy, sheetListingBy}
 
--- An entry, with what is asked of it besides the bytes: the position entry is asked in a mode, the boundary entry for a polygon by its number.
+-- An entry, with what is asked of it besides the bytes: the mode of reading, the way to fill gaps, and for the boundary entry a polygon by its number. The entries
+-- that take no mode and no way are those in mode 0 and way 0.
 pub data Entry : Type 0 where
-  numbers : Entry
+  numbers : (mode : ℕ) → Entry
   position : (mode : ℕ) → Entry
   write : Entry
-  ownerSets : Entry
-  owners : Entry
-  boundary : (polygon : ℕ) → Entry
-  listing : Entry
+  ownerSets : (mode : ℕ) → Entry
+  owners : (mode way : ℕ) → Entry
+  boundary : (mode way polygon : ℕ) → Entry
+  listing : (mode way : ℕ) → Entry
 
 -- What the entry comes to for the bytes that it is given.
 abbrev pub outcomeOf : Entry → List ℕ → Outcome
-outcomeOf numbers s = sheetNumbers s
+outcomeOf (numbers mode) s = sheetNumbersBy mode s
 outcomeOf (position mode) s = sheetPosition mode s
 outcomeOf write s = sheetWrite s
-outcomeOf ownerSets s = sheetOwnerSets s
-outcomeOf owners s = sheetOwners s
-outcomeOf (boundary polygon) s = sheetBoundary polygon s
-outcomeOf listing s = sheetListing s
+outcomeOf (ownerSets mode) s = sheetOwnerSetsBy mode s
+outcomeOf (owners mode way) s = sheetOwnersBy mode way s
+outcomeOf (boundary mode way polygon) s = sheetBoundaryBy mode way polygon s
+outcomeOf (listing mode way) s = sheetListingBy mode way s
 
 -- The room of an entry: lent so many bytes, it never answers 40.
 abbrev pub roomOf : Entry → ℕ
-roomOf numbers = 65_800
+roomOf (numbers mode) = 65_800
 roomOf (position mode) = 16
 roomOf write = 158_290
-roomOf ownerSets = 8_192
-roomOf owners = 1_024
-roomOf (boundary polygon) = 49_152
-roomOf listing = 6_600
+roomOf (ownerSets mode) = 8_192
+roomOf (owners mode way) = 1_024
+roomOf (boundary mode way polygon) = 49_152
+roomOf (listing mode way) = 6_600

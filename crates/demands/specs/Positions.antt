@@ -24,12 +24,12 @@ abbrev pub Enough : Outcome → List ℕ → Type 0
 Enough (value w) lent = length (w .text) ≤ length lent
 Enough (refused code item) lent = Unit {0}
 
--- The entries that read a sheet and hand a refusal of reading on as their own.
-abbrev pub ReadsSheet : Entry → Type 0
-ReadsSheet numbers = Unit {0}
-ReadsSheet (position mode) = ⊥
-ReadsSheet write = ⊥
-ReadsSheet ownerSets = Unit {0}
-ReadsSheet owners = Unit {0}
-ReadsSheet (boundary k) = Unit {0}
-ReadsSheet listing = ⊥
+-- The entries that read a sheet in the mode and hand a refusal of reading on as their own.
+abbrev pub ReadsSheet : ℕ → Entry → Type 0
+ReadsSheet mode (numbers m) = m ≡ mode
+ReadsSheet mode (position m) = ⊥
+ReadsSheet mode write = ⊥
+ReadsSheet mode (ownerSets m) = m ≡ mode
+ReadsSheet mode (owners m way) = m ≡ mode
+ReadsSheet mode (boundary m way k) = m ≡ mode
+ReadsSheet mode (listing m way) = ⊥

@@ -60,7 +60,27 @@ fn position(input: &[u8], lent: &mut [u8]) -> u64 {
     sheets::sheet_position(&input[4..], number(input, 0) as u32, lent)
 }
 
-// What the entry answers: 0 numbers, 1 write, 2 owner sets, 3 owners, 4 boundary, 5 listing, 6 position. Any other answers 255, a code that no entry gives.
+// What the entries answer that take what is asked as numbers: 7 numbers, 8 owner sets, 9 owners, 10 boundary, 11 listing. The mode, the way and the number of
+// the polygon stand before the sheet, each as a little-endian u32, also where the entry doesn't take it.
+fn by(entry: u8, input: &[u8], lent: &mut [u8]) -> u64 {
+    if input.len() < 12 {
+        return 255;
+    }
+    let mode = number(input, 0) as u32;
+    let way = number(input, 4) as u32;
+    let polygon = number(input, 8) as u32;
+    match entry {
+        7 => sheets::sheet_numbers_by(&input[12..], mode, lent),
+        8 => sheets::sheet_owner_sets_by(&input[12..], mode, lent),
+        9 => sheets::sheet_owners_by(&input[12..], mode, way, lent),
+        10 => sheets::sheet_boundary_by(&input[12..], mode, way, polygon, lent),
+        11 => sheets::sheet_listing_by(&input[12..], mode, way, lent),
+        _ => 255,
+    }
+}
+
+// What the entry answers: 0 numbers, 1 write, 2 owner sets, 3 owners, 4 boundary, 5 listing, 6 position, 7 to 11 those by a mode and a way. Any other answers
+// 255, a code that no entry gives.
 fn answer(entry: u8, input: &[u8], lent: &mut [u8]) -> u64 {
     match entry {
         0 => sheets::sheet_numbers(input, lent),
@@ -70,7 +90,7 @@ fn answer(entry: u8, input: &[u8], lent: &mut [u8]) -> u64 {
         4 => boundary(input, lent),
         5 => sheets::sheet_listing(input, lent),
         6 => position(input, lent),
-        _ => 255,
+        _ => by(entry, input, lent),
     }
 }
 

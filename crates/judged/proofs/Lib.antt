@@ -3,6 +3,7 @@ pub mod Stages
 pub mod Judging
 pub mod Read
 pub mod Repaired
+pub mod Ways
 pub mod Standing
 pub mod Sides
 pub mod OneOutcome

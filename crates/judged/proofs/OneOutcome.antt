@@ -1,14 +1,12 @@
 -- Two outcomes that the contract of `judged` allows are equal: the answer, and where it tells a judged sheet the numbers of the sheet, its owner sets and the
 -- numbers of the reverses of its sides. The idea: the bytes come to one judged sheet, its numbers as they are held are told by its numbers, and its owner sets
 -- by its owners. Assumes nothing.
-use mathlib.Core.Path.{_≡_, refl, sym, _∙_, ap, ap₂, subst}
+use mathlib.Core.Path.{_≡_, refl, sym, _∙_, ap, subst}
 use mathlib.Core.List.{List, [], _∷_, map}
 use Prim.Native.Nat.{ℕ, zero, suc, _*_}
-use native.Mathlib.Omega.{arith}
 use lib.ListN.{length, take, length-map}
 use Rattle.plane.specs.Corners.{millimetres}
 use Rattle.plane.specs.Boundaries.{sidesOf}
-use Rattle.plane.proofs.Keys.{millimetres-same}
 use Rattle.lent.specs.Stages.{value, refused}
 use Rattle.lent.proofs.Stages.{value-refused, same-refusal}
 use Rattle.table.specs.Opposites.{opposites}
@@ -17,14 +15,8 @@ use Rattle.sheet_form.specs.Numbers.{numbersOf}
 use Rattle.judged_sets.specs.declared.Owning.{Owning}
 use Rattle.judged_sets.specs.declared.Owning.the-variants.{Sets, Refused}
 use Rattle.judged.specs.Judged.{Judged, judgedSheet}
+use Rattle.sheet_older.proofs.Sheets.{same-held}
 use Rattle.judged.specs.Held.{JudgedHeld, JudgedAs}
-
--- Held numbers that stand for the same whole numbers are the same.
-same-held : (a b : List ℕ) → map millimetres a ≡ map millimetres b → a ≡ b
-same-held [] [] e = refl
-same-held [] (n ∷ b) e = absurd (let z = ap length e in omega arith)
-same-held (m ∷ a) [] e = absurd (let z = ap length e in omega arith)
-same-held (m ∷ a) (n ∷ b) e = ap₂ {C = List ℕ} _∷_ (millimetres-same m n (cc)) (same-held a b (cc))
 
 -- A front of a list is told by its length.
 front-taken : {A : Type 0} (k : ℕ) (l : List A) → take (length (take k l)) l ≡ take k l
@@ -39,8 +31,8 @@ record Fronts (j : Judged) (t : ℕ) (numbers opposite l : List ℕ) : Type 0 wh
   crossed : take (3 * t) opposite ≡ opposites (sidesOf (j .sheet .table))
   owned : take t l ≡ map setOf (j .owners)
 
-module _ (s : List ℕ) (j : Judged) (comes : judgedSheet s ≡ value j) where
-  fronts : {t : ℕ} {numbers opposite l : List ℕ} → JudgedAs s (Sets t) numbers opposite l → Fronts j t numbers opposite l
+module _ (mode : ℕ) (s : List ℕ) (j : Judged) (comes : judgedSheet mode s ≡ value j) where
+  fronts : {t : ℕ} {numbers opposite l : List ℕ} → JudgedAs mode s (Sets t) numbers opposite l → Fronts j t numbers opposite l
   fronts {t} {numbers} {opposite} {l} (i, e, many, w) = let q : value i ≡ value j = sym e ∙ comes in let same : i ≡ j = cc in subst (λ i. Fronts i t numbers opposite l) same (record {
     many = sym many;
     held =
@@ -50,21 +42,21 @@ module _ (s : List ℕ) (j : Judged) (comes : judgedSheet s ≡ value j) where
     owned = w .sets-are;
   })
 
-module _ (s numbers opposite l numbers′ opposite′ l′ : List ℕ) where
-  same-answer : (r r′ : Owning) → JudgedAs s r numbers opposite l → JudgedAs s r′ numbers′ opposite′ l′ → r ≡ r′
-  same-answer (Sets t) (Sets t′) p q = ap Sets (fronts s (p .0) (p .1) p .many ∙ sym (fronts s (p .0) (p .1) q .many))
+module _ (mode : ℕ) (s numbers opposite l numbers′ opposite′ l′ : List ℕ) where
+  same-answer : (r r′ : Owning) → JudgedAs mode s r numbers opposite l → JudgedAs mode s r′ numbers′ opposite′ l′ → r ≡ r′
+  same-answer (Sets t) (Sets t′) p q = ap Sets (fronts mode s (p .0) (p .1) p .many ∙ sym (fronts mode s (p .0) (p .1) q .many))
   same-answer (Sets t) (Refused code item) p q = absurd (value-refused (p .0) code item (sym (p .1) ∙ q))
   same-answer (Refused code item) (Sets t) p q = absurd (value-refused (q .0) code item (sym (q .1) ∙ p))
   same-answer (Refused code item) (Refused code′ item′) p q = let (c, i) = same-refusal {A = Judged} code item code′ item′ .0 (sym p ∙ q) in λ k. Refused (sym c k) (sym i k)
 
   -- The answers are the same. Where the bytes come to a judged sheet, as many numbers as it has, the reverses of its sides and its owner sets are the same too.
-  pub one-outcome : (r r′ : Owning) → JudgedAs s r numbers opposite l → JudgedAs s r′ numbers′ opposite′ l′
-      → (r ≡ r′) × ((t : ℕ) (j : Judged) → r ≡ Sets t → judgedSheet s ≡ value j
+  pub one-outcome : (r r′ : Owning) → JudgedAs mode s r numbers opposite l → JudgedAs mode s r′ numbers′ opposite′ l′
+      → (r ≡ r′) × ((t : ℕ) (j : Judged) → r ≡ Sets t → judgedSheet mode s ≡ value j
       → (take (length (numbersOf (j .sheet))) numbers ≡ take (length (numbersOf (j .sheet))) numbers′) × (take (3 * t) opposite ≡ take (3 * t) opposite′) × (take t l ≡ take t l′))
   one-outcome r r′ p q = (
     same-answer r r′ p q,
     λ t j e c.
-        let a = fronts s j c (subst (λ r. JudgedAs s r numbers opposite l) e p) in
-        let b = fronts s j c (subst (λ r. JudgedAs s r numbers′ opposite′ l′) (sym (same-answer r r′ p q) ∙ e) q) in
+        let a = fronts mode s j c (subst (λ r. JudgedAs mode s r numbers opposite l) e p) in
+        let b = fronts mode s j c (subst (λ r. JudgedAs mode s r numbers′ opposite′ l′) (sym (same-answer r r′ p q) ∙ e) q) in
         (same-held (take (length (numbersOf (j .sheet))) numbers) (take (length (numbersOf (j .sheet))) numbers′) (a .held ∙ sym (b .held)), a .crossed ∙ sym (b .crossed), a .owned ∙ sym (b .owned)),
   )

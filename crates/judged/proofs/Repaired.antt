@@ -120,16 +120,16 @@ module _ {j : Judged} (e : judgeSheet (j .sheet) ≡ value j) where
         (subst (λ t. RuleB t → RuleA t → RuleC (frameEdges t) t → Connects (opposites (sidesOf t)) (length table)) (keyed .2) (connects (keyed .0) (length table) (keyed .1)) (rules .1) (rules .0) (rules .2))
 
     -- Repair has no answer exactly if no triangle has an owner: 30, item 0, is its only refusal.
-    pub unrepaired : (code item : ℕ) → (repairOf j ≡ refused code item) ↔ ((code ≡ 30) × (item ≡ 0) × ((t : ℕ) → t < length (j .owners) → ownersAt (j .owners) t ≡ []))
+    pub unrepaired : (code item : ℕ) → (repairOf 0 j ≡ refused code item) ↔ ((code ≡ 30) × (item ≡ 0) × ((t : ℕ) → t < length (j .owners) → ownersAt (j .owners) t ≡ []))
     unrepaired code item = (to, from)
       where
-        none : (repairOf j ≡ refused 30 0) ↔ ((t : ℕ) → t < length (j .owners) → ownersAt (j .owners) t ≡ [])
+        none : (repairOf 0 j ≡ refused 30 0) ↔ ((t : ℕ) → t < length (j .owners) → ownersAt (j .owners) t ≡ [])
         none = no-owner (largest opposite) opposite (j .owners) listed
 
-        from : (code ≡ 30) × (item ≡ 0) × ((t : ℕ) → t < length (j .owners) → ownersAt (j .owners) t ≡ []) → repairOf j ≡ refused code item
+        from : (code ≡ 30) × (item ≡ 0) × ((t : ℕ) → t < length (j .owners) → ownersAt (j .owners) t ≡ []) → repairOf 0 j ≡ refused code item
         from (c, i, n) = none .1 n ∙ (λ k. refused (sym c k) (sym i k))
 
-        to : repairOf j ≡ refused code item → (code ≡ 30) × (item ≡ 0) × ((t : ℕ) → t < length (j .owners) → ownersAt (j .owners) t ≡ [])
+        to : repairOf 0 j ≡ refused code item → (code ≡ 30) × (item ≡ 0) × ((t : ℕ) → t < length (j .owners) → ownersAt (j .owners) t ≡ [])
         to r = elim (refused-by (largest opposite) opposite (j .owners) code item r) [
           | inl (c, i) ↦ (c, i, none .0 (r ∙ (λ k. refused (c k) (i k))))
           | inr c ↦
@@ -138,10 +138,10 @@ module _ {j : Judged} (e : judgeSheet (j .sheet) ≡ value j) where
         ]
 
     -- Its answer o gives each triangle exactly one owner, as laid down, and no other list does.
-    pub repaired-is : (o : List ℕ) → (repairOf j ≡ value o) ↔ (OneOwner (opposites (sidesOf (j .sheet .table))) (j .owners) o × LargestThere (opposites (sidesOf (j .sheet .table))) (j .owners) o)
+    pub repaired-is : (o : List ℕ) → (repairOf 0 j ≡ value o) ↔ (OneOwner (opposites (sidesOf (j .sheet .table))) (j .owners) o × LargestThere (opposites (sidesOf (j .sheet .table))) (j .owners) o)
     repaired-is o = repaired-exactly opposite (j .owners) listed pairs-up joins-up (omega (arith, owners-many, h .some)) o
 
-    module _ (o : List ℕ) (r : repairOf j ≡ value o) where
+    module _ (o : List ℕ) (r : repairOf 0 j ≡ value o) where
       -- There is a number for each triangle, and it is that of one of the sheet's polygons.
       pub after-many : length o ≡ length (j .sheet .table)
       after-many = repaired-length (largest opposite) opposite (j .owners) o r ∙ owners-many

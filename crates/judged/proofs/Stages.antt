@@ -13,7 +13,7 @@ use Rattle.table.specs.Table.{frameEdges, checkTable}
 use Rattle.owners_marks.specs.Marks.{ownersFrom}
 use Rattle.owners.specs.Owners.{judgeFrom, judgePolygons}
 use Rattle.sheet_form.specs.Numbers.{Sheet, members}
-use Rattle.sheet.specs.Read.{readSheet}
+use Rattle.sheet_modes.specs.Modes.{readBy}
 use Rattle.judged.specs.Judged.{Judged, judgeSheet, judgedSheet}
 
 -- The stage of the table rules.
@@ -80,19 +80,19 @@ module _ (n : Sheet) where
           chain-refused (checked n) polygons code item .1 (inr (tt, p, chain-refused (judgePolygons (n .table) (n .polygons)) with-owners code item .1 (inl (polygons-refused (n .table) (n .polygons) code item .1 q))))
 
 -- ---- bytes
-module _ (s : List ℕ) where
+module _ (mode : ℕ) (s : List ℕ) where
   -- Bytes come to a judged sheet exactly if they are read as its sheet, and that is judged so.
-  pub judged-value : (j : Judged) → (judgedSheet s ≡ value j) ↔ ((readSheet members s ≡ value (j .sheet)) × (judgeSheet (j .sheet) ≡ value j))
+  pub judged-value : (j : Judged) → (judgedSheet mode s ≡ value j) ↔ ((readBy members mode s ≡ value (j .sheet)) × (judgeSheet (j .sheet) ≡ value j))
   unfolding judgedSheet
-  judged-value j = (to, λ (p, q). chain-value (readSheet members s) judgeSheet j .1 (j .sheet, p, q))
+  judged-value j = (to, λ (p, q). chain-value (readBy members mode s) judgeSheet j .1 (j .sheet, p, q))
     where
-      to : andThen (readSheet members s) judgeSheet ≡ value j → (readSheet members s ≡ value (j .sheet)) × (judgeSheet (j .sheet) ≡ value j)
+      to : andThen (readBy members mode s) judgeSheet ≡ value j → (readBy members mode s ≡ value (j .sheet)) × (judgeSheet (j .sheet) ≡ value j)
       to e =
-          let (n, p, q) = chain-value (readSheet members s) judgeSheet j .0 e in
+          let (n, p, q) = chain-value (readBy members mode s) judgeSheet j .0 e in
           let i = sym (sheet-value n j .0 q .0) in
           (p ∙ ap value i, subst (λ n. judgeSheet n ≡ value j) i q)
 
   -- They are refused by reading, or read as a sheet that is refused.
-  pub judged-refused : (code item : ℕ) → (judgedSheet s ≡ refused code item) ↔ ((readSheet members s ≡ refused code item) ⊎ ((n : Sheet) × (readSheet members s ≡ value n) × (judgeSheet n ≡ refused code item)))
+  pub judged-refused : (code item : ℕ) → (judgedSheet mode s ≡ refused code item) ↔ ((readBy members mode s ≡ refused code item) ⊎ ((n : Sheet) × (readBy members mode s ≡ value n) × (judgeSheet n ≡ refused code item)))
   unfolding judgedSheet
-  judged-refused code item = chain-refused (readSheet members s) judgeSheet code item
+  judged-refused code item = chain-refused (readBy members mode s) judgeSheet code item

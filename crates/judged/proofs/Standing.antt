@@ -17,13 +17,13 @@ use Rattle.judged.specs.Judged.{Judged, judgedSheet}
 use Rattle.judged.specs.Held.{JudgedHeld, JudgedAs}
 use Rattle.judged.proofs.Repaired.{owners-many, pairs-up}
 
-module _ (s : List ℕ) (r : Owning) (numbers opposite l : List ℕ) (e : JudgedAs s r numbers opposite l) where
+module _ (mode : ℕ) (s : List ℕ) (r : Owning) (numbers opposite l : List ℕ) (e : JudgedAs mode s r numbers opposite l) where
   -- The answer tells whether there is a judged sheet.
-  pub stands : (t : ℕ) → r ≡ Sets t → (j : Judged) × (judgedSheet s ≡ value j) × (length (j .sheet .table) ≡ t) × JudgedHeld j numbers (take (3 * t) opposite) (take t l)
-  stands t q = subst (λ r. JudgedAs s r numbers opposite l) q e
+  pub stands : (t : ℕ) → r ≡ Sets t → (j : Judged) × (judgedSheet mode s ≡ value j) × (length (j .sheet .table) ≡ t) × JudgedHeld j numbers (take (3 * t) opposite) (take t l)
+  stands t q = subst (λ r. JudgedAs mode s r numbers opposite l) q e
 
-  pub refused-is : (code item : ℕ) → r ≡ Refused code item → judgedSheet s ≡ refused code item
-  refused-is code item q = subst (λ r. JudgedAs s r numbers opposite l) q e
+  pub refused-is : (code item : ℕ) → r ≡ Refused code item → judgedSheet mode s ≡ refused code item
+  refused-is code item q = subst (λ r. JudgedAs mode s r numbers opposite l) q e
 
 module _ {j : Judged} {numbers opposite sets : List ℕ} (w : JudgedHeld j numbers opposite sets) where
   -- One owner set for each triangle, of which there are at most 1,024.

@@ -24,7 +24,7 @@ pub record JudgedHeld (j : Judged) (numbers opposite sets : List ℕ) : Type 0 w
   pub sets-are : sets ≡ map setOf (j .owners)
   pub owners-are : map ownersOf sets ≡ j .owners
 
--- The answer with its three lists is what the bytes come to: a judged sheet of t triangles, held at the fronts of the lists, or the refusal.
-abbrev pub JudgedAs : List ℕ → Owning → List ℕ → List ℕ → List ℕ → Type 0
-JudgedAs s (Sets t) numbers opposite l = (j : Judged) × (judgedSheet s ≡ value j) × (length (j .sheet .table) ≡ t) × JudgedHeld j numbers (take (3 * t) opposite) (take t l)
-JudgedAs s (Refused code item) numbers opposite l = judgedSheet s ≡ refused code item
+-- The answer with its three lists is what the bytes come to in the mode: a judged sheet of t triangles, held at the fronts of the lists, or the refusal.
+abbrev pub JudgedAs : ℕ → List ℕ → Owning → List ℕ → List ℕ → List ℕ → Type 0
+JudgedAs mode s (Sets t) numbers opposite l = (j : Judged) × (judgedSheet mode s ≡ value j) × (length (j .sheet .table) ≡ t) × JudgedHeld j numbers (take (3 * t) opposite) (take t l)
+JudgedAs mode s (Refused code item) numbers opposite l = judgedSheet mode s ≡ refused code item

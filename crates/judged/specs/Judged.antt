@@ -6,9 +6,9 @@ use Rattle.lent.specs.Stages.{Answer, value, andThen}
 use Rattle.table.specs.Table.{frameEdges, checkTable}
 use Rattle.table.specs.Opposites.{opposites}
 use Rattle.owners.specs.Owners.{judgePolygons}
-use Rattle.repair.specs.Repair.{largest, repaired}
+use Rattle.repair.specs.Ways.{repairedBy}
 use Rattle.sheet_form.specs.Numbers.{Sheet, members}
-use Rattle.sheet.specs.Read.{readSheet}
+use Rattle.sheet_modes.specs.Modes.{readBy}
 
 -- A judged sheet: the sheet in numbers, with the owners of each triangle of its table before repair.
 pub record Judged : Type 0 where
@@ -22,12 +22,10 @@ judgeSheet n =
     andThen (judgePolygons (n .table) (n .polygons)) (λ owners.
     value (record { sheet = n; owners = owners })))
 
--- What bytes come to: read as a sheet, which is judged.
-unfoldable pub judgedSheet : List ℕ → Answer Judged
-judgedSheet s = andThen (readSheet members s) judgeSheet
+-- What bytes come to in a mode: read as a sheet, which is judged.
+unfoldable pub judgedSheet : ℕ → List ℕ → Answer Judged
+judgedSheet mode s = andThen (readBy members mode s) judgeSheet
 
--- The repair of a judged sheet: document 01 gives a gap region to the largest number across its sides.
-abbrev pub repairOf : Judged → Answer (List ℕ)
-repairOf j =
-    let opposite : List ℕ = opposites (sidesOf (j .sheet .table)) in
-    repaired (largest opposite) opposite (j .owners)
+-- The repair of a judged sheet in a way.
+abbrev pub repairOf : ℕ → Judged → Answer (List ℕ)
+repairOf way j = repairedBy way (opposites (sidesOf (j .sheet .table))) (j .owners)

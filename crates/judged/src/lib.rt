@@ -1,4 +1,4 @@
-// From bytes to a judged sheet: reading, the table rules, and the judging of the polygons in number order.
+// From bytes to a judged sheet: reading in a mode, the table rules, and the judging of the polygons in number order.
 ghost use mathlib.Core.Path.{_≡_};
 ghost use Prim.Native.Nat.{_*_, _≤_};
 ghost use lib.ListN.{length};
@@ -10,7 +10,6 @@ ghost use Rattle.judged.specs.Held.{JudgedAs};
 use judged_sets::Owning;
 use plane::OFFSET;
 use sheet::Ending;
-use sheet_form::MEMBERS;
 use table_check::Check;
 
 // The sheet in numbers with work lists of the right lengths: the table rules, and then the polygons.
@@ -54,13 +53,19 @@ fn judge(numbers: &[u32], opposite: &mut [usize], sets: &mut [u64]) -> Owning
     )
 }
 
-// Reads the sheet and judges its polygons. On success the sheet in numbers, the number of the reverse of each side of its table, and the owner
+// Reads the sheet in a mode and judges its polygons. On success the sheet in numbers, the number of the reverse of each side of its table, and the owner
 // sets stand at the front of the lent lists.
-pub fn judged(sheet: &[u8], numbers: &mut [u32], opposite: &mut [usize], sets: &mut [u64]) -> Owning
+pub fn judged(
+    sheet: &[u8],
+    mode: u32,
+    numbers: &mut [u32],
+    opposite: &mut [usize],
+    sets: &mut [u64],
+) -> Owning
     requires { ⌜ (16450 ≤ length (now numbers)) × (3072 ≤ length (now opposite)) × (1024 ≤ length (now sets)) ⌝ }
-    ensures { λ r. ⌜ JudgedAs (now (sheet .entry)) r (now (numbers .exit)) (now (opposite .exit)) (now (sets .exit)) ⌝ }
+    ensures { λ r. ⌜ JudgedAs mode (now (sheet .entry)) r (now (numbers .exit)) (now (opposite .exit)) (now (sets .exit)) ⌝ }
 {
-    match sheet::read(sheet, MEMBERS, numbers) {
+    match sheet_modes::read(sheet, mode, numbers) {
         Ending::Refused(code, item, _) => Owning::Refused(code, item),
         Ending::Sheet(n) => judge(&numbers[..n], opposite, sets),
     }

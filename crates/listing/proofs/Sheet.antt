@@ -14,8 +14,8 @@ use Rattle.owners_marks.specs.Marks.{standingBy}
 use Rattle.owners_marks.specs.Sets.{ownersOf}
 use Rattle.repair.specs.declared.Repaired.{Repaired}
 use Rattle.repair.specs.declared.Repaired.the-variants.{Done, Refused}
-use Rattle.repair.specs.Repair.{largest, repaired}
-use Rattle.repair.specs.Giving.{RepairedTo, repairOf as answerOf}
+use Rattle.repair.specs.Ways.{repairedBy}
+use Rattle.repair.specs.Giving.{RepairedBy, repairOf as answerOf}
 use Rattle.listing_figures.specs.declared.Figure.{Figure}
 use Rattle.listing_figures.specs.declared.Figure.the-variants.{Gaps, Overlaps}
 use Rattle.listing_figures.specs.Figures.{marksOf, total}
@@ -67,11 +67,11 @@ module _ {j : Judged} {numbers opposite sets : List ℕ} (w : JudgedHeld j numbe
       (line-is overlapWord Overlaps _ overlaps))
       verdict-same
 
-  after-is : (done : Repaired) → answerOf done owners ≡ repairOf j → afterBy done (length (j .sheet .polygons)) sets owners areas ≡ afterLines (j .sheet) (repairOf j)
-  after-is Done e = ap (numbered afterWord 1) (sym (polygons-after (w .comes) areas sets owners (a .are) (w .sets-are) (each ∙ sets-many w))) ∙ ap (afterLines (j .sheet)) e
-  after-is (Refused code item) e = ap (afterLines (j .sheet)) e
+  after-is : (way : ℕ) (done : Repaired) → answerOf done owners ≡ repairOf way j → afterBy done (length (j .sheet .polygons)) sets owners areas ≡ afterLines (j .sheet) (repairOf way j)
+  after-is way Done e = ap (numbered afterWord 1) (sym (polygons-after (w .comes) areas sets owners (a .are) (w .sets-are) (each ∙ sets-many w))) ∙ ap (afterLines (j .sheet)) e
+  after-is way (Refused code item) e = ap (afterLines (j .sheet)) e
 
   -- The lines by the figures, and by what repair came to, are the listing.
-  pub listing-is : {lent : List ℕ} (done : Repaired) → RepairedTo (largest opposite) opposite (map ownersOf sets) lent done owners
-      → linesBy done (length (j .sheet .polygons)) sets owners areas ≡ listingOf j
-  listing-is done r = ap₂ _++_ head-is (after-is done (r .answer ∙ ap₂ (λ o l. repaired (largest o) o l) (w .crossed) (w .owners-are)))
+  pub listing-is : {lent : List ℕ} (way : ℕ) (done : Repaired) → RepairedBy way opposite (map ownersOf sets) lent done owners
+      → linesBy done (length (j .sheet .polygons)) sets owners areas ≡ listingOf way j
+  listing-is way done r = ap₂ _++_ head-is (after-is way done (r .answer ∙ ap₂ (repairedBy way) (w .crossed) (w .owners-are)))

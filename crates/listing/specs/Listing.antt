@@ -47,11 +47,11 @@ headOf n owners =
     ++ figureLine overlapWord (overlapsOf (n .table) owners)
     ++ verdictLine owners
 
--- The listing of a judged sheet.
-abbrev pub listingOf : Judged → List ℕ
-listingOf j = headOf (j .sheet) (j .owners) ++ afterLines (j .sheet) (repairOf j)
+-- The listing of a judged sheet, repaired in a way.
+abbrev pub listingOf : ℕ → Judged → List ℕ
+listingOf way j = headOf (j .sheet) (j .owners) ++ afterLines (j .sheet) (repairOf way j)
 
 -- The listing of what bytes come to.
-abbrev pub listing : Answer Judged → List ℕ
-listing (value j) = listingOf j
-listing (refused code item) = refusedLine code item
+abbrev pub listing : ℕ → Answer Judged → List ℕ
+listing way (value j) = listingOf way j
+listing way (refused code item) = refusedLine code item

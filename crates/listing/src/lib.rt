@@ -22,29 +22,29 @@ fn lay_areas(numbers: &[u32], areas: &mut [u64])
     listing_figures::areas(&keys[..3 * n], areas);
 }
 
-// The listing of a judged sheet.
-fn put_judged(numbers: &[u32], opposite: &[usize], sets: &[u64], text: &mut [u8]) -> usize
+// The listing of a judged sheet, repaired in a way.
+fn put_judged(way: u32, numbers: &[u32], opposite: &[usize], sets: &[u64], text: &mut [u8]) -> usize
     requires { ⌜ ((j : Judged) × JudgedHeld j (now numbers) (now opposite) (now sets)) × (6600 ≤ length (now text)) ⌝ }
-    ensures { λ r. ⌜ (r ≤ 6600) × ((j : Judged) → JudgedHeld j (now (numbers .entry)) (now (opposite .entry)) (now (sets .entry)) → Put 0 (listingOf j) (now (text .entry)) r (now (text .exit))) ⌝ }
+    ensures { λ r. ⌜ (r ≤ 6600) × ((j : Judged) → JudgedHeld j (now (numbers .entry)) (now (opposite .entry)) (now (sets .entry)) → Put 0 (listingOf way j) (now (text .entry)) r (now (text .exit))) ⌝ }
 {
     let n = sets.len();
     let polygons = numbers[1 + 6 * n] - OFFSET;
     let mut areas = [0u64; 1024];
     let mut owners = [0u8; 1024];
     lay_areas(numbers, &mut areas[..n]);
-    let done = repair::repair(opposite, sets, &mut owners[..n]);
+    let done = repair::repair(way, opposite, sets, &mut owners[..n]);
     listing_lines::put_lines(text, done, polygons, sets, &owners[..n], &areas[..n])
 }
 
-// The listing of a sheet, put at the front of the lent text; what stands behind it keeps its value.
-pub fn print(sheet: &[u8], text: &mut [u8]) -> usize
+// The listing of a sheet that is read in a mode and repaired in a way, put at the front of the lent text; what stands behind it keeps its value.
+pub fn print(sheet: &[u8], mode: u32, way: u32, text: &mut [u8]) -> usize
     requires { ⌜ 6600 ≤ length (now text) ⌝ }
-    ensures { λ r. ⌜ (r ≤ 6600) × Put 0 (listing (judgedSheet (now (sheet .entry)))) (now (text .entry)) r (now (text .exit)) ⌝ }
+    ensures { λ r. ⌜ (r ≤ 6600) × Put 0 (listing way (judgedSheet mode (now (sheet .entry)))) (now (text .entry)) r (now (text .exit)) ⌝ }
 {
     let mut numbers = [0u32; 16450];
     let mut opposite = [0usize; 3072];
     let mut sets = [0u64; 1024];
-    match judged::judged(sheet, &mut numbers, &mut opposite, &mut sets) {
+    match judged::judged(sheet, mode, &mut numbers, &mut opposite, &mut sets) {
         Owning::Refused(code, item) => lent_text::put_line(
             text,
             0,
@@ -52,6 +52,6 @@ pub fn print(sheet: &[u8], text: &mut [u8]) -> usize
             code as u64,
             item as u64,
         ),
-        Owning::Sets(n) => put_judged(&numbers, &opposite[..3 * n], &sets[..n], text),
+        Owning::Sets(n) => put_judged(way, &numbers, &opposite[..3 * n], &sets[..n], text),
     }
 }

@@ -1,23 +1,19 @@
--- What the ending of a reading says of the outcome of the numbers entry: it is the numbers form of the sheet that is read, or the refusal. Assumes nothing.
+-- What a reading in a mode says of the outcome of the numbers entry: it is the numbers form of the sheet that is read, as it is held. Assumes nothing.
 use mathlib.Core.Path.{_≡_, refl, sym, _∙_, ap}
 use mathlib.Core.List.{List, [], _∷_, _++_, map, flatMap}
-use Prim.Native.Nat.{ℕ, _*_, _<_}
-use native.Mathlib.Omega.{arith}
+use Prim.Native.Nat.{ℕ, _*_}
+use lib.IntN.{ℤ}
 use lib.ListN.{length}
-use Rattle.whole.specs.Sums.{All}
 use Rattle.plane.specs.Corners.{millimetres}
-use Rattle.lent.specs.Stages.{refused, andThen}
+use Rattle.lent.specs.Stages.{value, andThen}
 use Rattle.lent.specs.Answered.{bytes}
 use Rattle.lent_little.specs.Bytes.{i32}
 use Rattle.lent_little.specs.Held.{heldBytes}
 use Rattle.lent_little.proofs.Bytes.{held-length, all-length}
-use Rattle.sheet.specs.declared.Ending.the-variants.{Sheet, Refused}
-use Rattle.sheet_form.specs.Numbers.{members}
-use Rattle.sheet.specs.Reading.{readingOf}
-use Rattle.sheet.specs.Going.{readOf}
-use Rattle.sheet_written.proofs.Held.{read-held}
-use Rattle.judged.proofs.Read.{sheet-is, refusal-is}
-use Rattle.outcomes.specs.Entries.{formOutcome, sheetNumbers}
+use Rattle.sheet_form.specs.Numbers.{Sheet, members, numbersOf}
+use Rattle.sheet.specs.Held.{SheetHeld}
+use Rattle.sheet_modes.specs.Modes.{readBy}
+use Rattle.outcomes.specs.Entries.{formOf, formOutcome, sheetNumbersBy}
 
 -- The bytes of held numbers are those of the numbers.
 held-all : (l : List ℕ) → flatMap heldBytes l ≡ flatMap i32 (map millimetres l)
@@ -25,17 +21,14 @@ unfolding flatMap
 held-all [] = refl
 held-all (h ∷ l) = ap (λ m. heldBytes h ++ m) (held-all l)
 
-module _ (s : List ℕ) where
-  -- A reading that is refused is the outcome.
-  pub numbers-unread : (code item field : ℕ) → readOf (readingOf members s) ≡ Refused code item field → sheetNumbers s ≡ refused code item
-  numbers-unread code item field e = ap (λ r. andThen r formOutcome) (refusal-is s code item field e)
+pub held-form : (n : Sheet) (l : List ℕ) → map millimetres l ≡ numbersOf n → formOf n ≡ flatMap heldBytes l
+held-form n l e = sym (held-all l ∙ ap (flatMap i32) e)
 
-  -- A sheet that is read comes to its numbers as they are held, four bytes each.
-  pub numbers-read : All (λ b. b < 256) s → (n : ℕ) → readOf (readingOf members s) ≡ Sheet n → sheetNumbers s ≡ bytes (4 * n) (flatMap heldBytes (readingOf members s .numbers))
-  numbers-read all n e =
-      let (m, c) = sheet-is (readingOf members s) n e in
-      let (sheet, h, r) = read-held members (omega arith) s all c in
-      let form : flatMap i32 _ ≡ flatMap heldBytes (readingOf members s .numbers) = sym (held-all (readingOf members s .numbers) ∙ ap (flatMap i32) (h .is)) in
-      ap (λ r. andThen r formOutcome) r
-      ∙ ap (λ l. bytes (length l) l) form
-      ∙ ap (λ k. bytes k (flatMap heldBytes (readingOf members s .numbers))) (all-length 4 heldBytes held-length (readingOf members s .numbers) ∙ ap (λ k. 4 * k) (sym m))
+-- Four bytes for each number.
+pub four-each : (l : List ℕ) → length (flatMap heldBytes l) ≡ 4 * length l
+four-each = all-length 4 heldBytes held-length
+
+-- A sheet that is read comes to its numbers as they are held, four bytes each.
+pub numbers-read : (mode : ℕ) (s : List ℕ) (n : Sheet) (l : List ℕ) → readBy members mode s ≡ value n → SheetHeld members n l → sheetNumbersBy mode s ≡ bytes (4 * length l) (flatMap heldBytes l)
+numbers-read mode s n l r h =
+    ap (λ r. andThen r formOutcome) r ∙ ap (λ l. bytes (length l) l) (held-form n l (h .is)) ∙ ap (λ k. bytes k (flatMap heldBytes l)) (four-each l)

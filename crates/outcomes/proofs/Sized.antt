@@ -85,9 +85,9 @@ module _ (n : Sheet) (few : length (n .polygons) ≤ 64) where
       let area : ℕ → ℤ = λ polygon. sum double (trianglesOwned (n .table) owners polygon) in
       omega (arith, numbered-most afterWord 1 (map area (from 1 (length (n .polygons)))), length-map-from area 1 (length (n .polygons)))
 
-pub listing-most : (j : Judged) → length (j .sheet .polygons) ≤ 64 → length (listingOf j) ≤ 6600
-listing-most j few =
-    omega (arith, length-append (headOf (j .sheet) (j .owners)) (afterLines (j .sheet) (repairOf j)), head-most (j .sheet) few (j .owners), after-most (j .sheet) few (repairOf j))
+pub listing-most : (way : ℕ) (j : Judged) → length (j .sheet .polygons) ≤ 64 → length (listingOf way j) ≤ 6600
+listing-most way j few =
+    omega (arith, length-append (headOf (j .sheet) (j .owners)) (afterLines (j .sheet) (repairOf way j)), head-most (j .sheet) few (j .owners), after-most (j .sheet) few (repairOf way j))
 
 -- ---- boundary sides
 passing-fewer : {A : Type 0} (test : A → Bool) (l : List A) → length (passing test l) ≤ length l

@@ -1,8 +1,8 @@
 -- What each entry comes to, by what is asked of it.
-use mathlib.Core.Bool.{Bool, _&&_, cond}
+use mathlib.Core.Bool.{Bool, _&&_}
 use mathlib.Core.List.{List, _++_, map, flatMap}
 use Prim.Native.Nat.{ℕ, _+_, _*_}
-use lib.Dec.{leb, eqb}
+use lib.Dec.{leb}
 use lib.ListN.{length}
 use Rattle.plane.specs.Points.{Edge}
 use Rattle.lent.specs.Stages.{value, refused, andThen, needing}
@@ -14,8 +14,7 @@ use Rattle.owners_marks.specs.Marks.{setOf}
 use Rattle.repair_sides.specs.Sides.{boundarySides, trianglesOwned}
 use Rattle.repair_answers.specs.Answers.{numbersAfter}
 use Rattle.sheet_form.specs.Numbers.{Sheet, members, numbersOf}
-use Rattle.sheet.specs.Reading.{readingOf}
-use Rattle.sheet.specs.Read.{readSheet}
+use Rattle.sheet_modes.specs.Modes.{editionOf, readBy, positionIn}
 use Rattle.sheet_written.specs.Given.{sheetGiven, writeOutcome}
 use Rattle.judged.specs.Judged.{Judged, judgedSheet, repairOf}
 use Rattle.listing.specs.Listing.{listing}
@@ -30,9 +29,12 @@ formOf n = flatMap i32 (numbersOf n)
 abbrev pub formOutcome : Sheet → Outcome
 formOutcome n = bytes (length (formOf n)) (formOf n)
 
--- sheet_numbers.
+-- sheet_numbers_by; sheet_numbers is the same in mode 0.
+abbrev pub sheetNumbersBy : ℕ → List ℕ → Outcome
+sheetNumbersBy mode s = andThen (readBy members mode s) formOutcome
+
 abbrev pub sheetNumbers : List ℕ → Outcome
-sheetNumbers s = andThen (readSheet members s) formOutcome
+sheetNumbers = sheetNumbersBy 0
 
 -- ---- where in the file
 -- The number that an entry answers where enough bytes are lent.
@@ -47,10 +49,10 @@ u64 n = Ordered.bytes 8 n
 abbrev pub telling : ℕ → ℕ → Outcome
 telling answer position = bytes 16 (u64 answer ++ u64 position)
 
--- sheet_position: the answer of the numbers entry with room enough, and the byte position of the field at fault, 0 where the sheet is read. In a mode
--- that is not 0 the answer told is 57, and the position 0.
+-- sheet_position: the answer of the numbers entry in the mode with room enough, and the byte position of the field at fault, 0 where the sheet is read or the
+-- mode is unknown.
 abbrev pub sheetPosition : ℕ → List ℕ → Outcome
-sheetPosition mode s = cond (eqb mode 0) (telling (withRoom (sheetNumbers s)) (readingOf members s .position)) (telling 57 0)
+sheetPosition mode s = telling (withRoom (sheetNumbersBy mode s)) (positionIn (editionOf mode) s)
 
 -- ---- writing
 -- sheet_write: the normal bytes of the sheet that the numbers give, else 42.
@@ -69,32 +71,45 @@ sidesAfter sides = bytes (length sides) (flatMap sideBytes sides)
 abbrev pub onSheet : ℕ → Sheet → Bool
 onSheet polygon n = leb 1 polygon && leb polygon (length (n .polygons))
 
--- What a judged sheet goes on to. The owner sets before repair; 30, or the number of each triangle after repair; 41 where the asked polygon isn't
--- on the sheet, then 30, or the boundary sides.
-abbrev pub goesOn : Wanted → Judged → Outcome
-goesOn OwnerSets j = setsOutcome (map setOf (j .owners))
-goesOn Owners j = andThen (repairOf j) numbersAfter
-goesOn (Boundary polygon) j = andThen (needing (onSheet polygon (j .sheet)) 41 0) (λ _. andThen (repairOf j) (λ owners. sidesAfter (ownedSides (j .sheet) polygon owners)))
+-- What a judged sheet goes on to, repaired in a way. The owner sets before repair; a refusal of repair, or the number of each triangle after it; 41 where the
+-- asked polygon isn't on the sheet, then a refusal of repair, or the boundary sides.
+abbrev pub goesOn : ℕ → Wanted → Judged → Outcome
+goesOn way OwnerSets j = setsOutcome (map setOf (j .owners))
+goesOn way Owners j = andThen (repairOf way j) numbersAfter
+goesOn way (Boundary polygon) j = andThen (needing (onSheet polygon (j .sheet)) 41 0) (λ _. andThen (repairOf way j) (λ owners. sidesAfter (ownedSides (j .sheet) polygon owners)))
 
 -- The road of the entries that judge: the bytes come to a judged sheet, which goes on to what is wanted.
 abbrev pub answerTo : Asked → List ℕ → Outcome
-answerTo asked s = andThen (judgedSheet s) (goesOn (asked .wanted))
+answerTo asked s = andThen (judgedSheet (asked .mode) s) (goesOn (asked .way) (asked .wanted))
 
--- sheet_owner_sets, sheet_owners, and sheet_boundary for the polygon of the number.
+-- sheet_owner_sets_by, sheet_owners_by, and sheet_boundary_by for the polygon of the number.
+abbrev pub sheetOwnerSetsBy : ℕ → List ℕ → Outcome
+sheetOwnerSetsBy mode = answerTo (record { mode = mode; way = 0; wanted = OwnerSets })
+
+abbrev pub sheetOwnersBy : ℕ → ℕ → List ℕ → Outcome
+sheetOwnersBy mode way = answerTo (record { mode = mode; way = way; wanted = Owners })
+
+abbrev pub sheetBoundaryBy : ℕ → ℕ → ℕ → List ℕ → Outcome
+sheetBoundaryBy mode way polygon = answerTo (record { mode = mode; way = way; wanted = Boundary polygon })
+
+-- sheet_owner_sets, sheet_owners and sheet_boundary are the same in mode 0 and way 0.
 abbrev pub sheetOwnerSets : List ℕ → Outcome
-sheetOwnerSets = answerTo (record { wanted = OwnerSets })
+sheetOwnerSets = sheetOwnerSetsBy 0
 
 abbrev pub sheetOwners : List ℕ → Outcome
-sheetOwners = answerTo (record { wanted = Owners })
+sheetOwners = sheetOwnersBy 0 0
 
 abbrev pub sheetBoundary : ℕ → List ℕ → Outcome
-sheetBoundary polygon = answerTo (record { wanted = Boundary polygon })
+sheetBoundary polygon = sheetBoundaryBy 0 0 polygon
 
 -- ---- the listing
 -- The bytes of a text; the item is their number.
 abbrev pub textOutcome : List ℕ → Outcome
 textOutcome text = bytes (length text) text
 
--- sheet_listing: a refused sheet has a listing too, so that 40 is its only refusal.
+-- sheet_listing_by: a refused sheet has a listing too, so that 40 is its only refusal. sheet_listing is the same in mode 0 and way 0.
+abbrev pub sheetListingBy : ℕ → ℕ → List ℕ → Outcome
+sheetListingBy mode way s = textOutcome (listing way (judgedSheet mode s))
+
 abbrev pub sheetListing : List ℕ → Outcome
-sheetListing s = textOutcome (listing (judgedSheet s))
+sheetListing = sheetListingBy 0 0

@@ -8,7 +8,9 @@ pub enum Wanted {
     Boundary(u32),
 }
 
-// What is asked besides the bytes.
+// What is asked besides the bytes: the mode of reading, the way to fill gaps, and what is wanted.
 pub struct Asked {
+    pub mode: u32,
+    pub way: u32,
     pub wanted: Wanted,
 }

@@ -12,7 +12,8 @@ use Rattle.repair_regions.specs.Regions.{region}
 use Rattle.repair_regions.specs.Spreading.{Meeting, Spread}
 use Rattle.repair.specs.declared.Repaired.{Repaired}
 use Rattle.repair.specs.declared.Repaired.the-variants.{Done, Refused}
-use Rattle.repair.specs.Repair.{settled, Choice, beyond, numbersGiven, repaired}
+use Rattle.repair.specs.Repair.{settled, Choice, beyond, largest, numbersGiven, repaired}
+use Rattle.repair.specs.Ways.{repairedBy}
 
 -- The largest number across the sides of the triangles of the group from `first` on and before i; 0 where there is none.
 pub record Best (opposite numbers group : List ℕ) (first i r : ℕ) : Type 0 where
@@ -50,3 +51,11 @@ ownersLeft choice opposite owners lent = cond (every (eqb 0) (settled owners)) l
 pub record RepairedTo (choice : Choice) (opposite : List ℕ) (owners : List (List ℕ)) (before : List ℕ) (r : Repaired) (after : List ℕ) : Type 0 where
   pub answer : repairOf r after ≡ repaired choice opposite owners
   pub left : after ≡ ownersLeft choice opposite owners before
+
+-- The same of a repair in a way: where the way is unknown, they are as they were.
+abbrev pub ownersLeftBy : ℕ → List ℕ → List (List ℕ) → List ℕ → List ℕ
+ownersLeftBy way opposite owners lent = cond (eqb way 0) (ownersLeft (largest opposite) opposite owners lent) lent
+
+pub record RepairedBy (way : ℕ) (opposite : List ℕ) (owners : List (List ℕ)) (before : List ℕ) (r : Repaired) (after : List ℕ) : Type 0 where
+  pub answer : repairOf r after ≡ repairedBy way opposite owners
+  pub left : after ≡ ownersLeftBy way opposite owners before

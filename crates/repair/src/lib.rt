@@ -11,7 +11,7 @@ ghost use Rattle.table.specs.Sides.{itemOf};
 ghost use Rattle.owners_marks.specs.Sets.{ownersOf, standingOf};
 ghost use Rattle.repair_regions.specs.Spreading.{Paired};
 ghost use Rattle.repair.specs.Repair.{settledBy, settled, largest, greater, beyond, numbersGiven, ungiven};
-ghost use Rattle.repair.specs.Giving.{RepairedTo, Best, Filled, State, Further};
+ghost use Rattle.repair.specs.Giving.{RepairedTo, RepairedBy, Best, Filled, State, Further};
 
 // The owner number of a triangle once the overlaps are settled; 0 for a gap.
 fn owner_of(set: u64) -> u8
@@ -170,9 +170,9 @@ pub enum Repaired {
     Refused(u32, u32),
 }
 
-// Repair: the owner number of each triangle, from the owner sets. 30 where no triangle has an owner, and the list is as it was; 31 with the first
-// triangle that nobody can be given, and the list has the numbers given.
-pub fn repair(opposite: &[usize], sets: &[u64], owners: &mut [u8]) -> Repaired
+// Repair by the priority list: the owner number of each triangle, from the owner sets. 30 where no triangle has an owner, and the list is as it was; 31
+// with the first triangle that nobody can be given, and the list has the numbers given.
+fn by_priority(opposite: &[usize], sets: &[u64], owners: &mut [u8]) -> Repaired
     requires { ⌜ Paired (now opposite) (length (now sets)) × (length (now owners) ≡ length (now sets)) × (length (now sets) ≤ 1024) ⌝ }
     ensures { λ r. ⌜ RepairedTo (largest (now (opposite .entry))) (now (opposite .entry)) (map ownersOf (now (sets .entry))) (now (owners .entry)) r (now (owners .exit)) ⌝ }
 {
@@ -197,4 +197,15 @@ pub fn repair(opposite: &[usize], sets: &[u64], owners: &mut [u8]) -> Repaired
         return Repaired::Refused(31, t as u32);
     }
     Repaired::Done
+}
+
+// Repair in a way. 54 where the way is unknown, and the list is as it was.
+pub fn repair(way: u32, opposite: &[usize], sets: &[u64], owners: &mut [u8]) -> Repaired
+    requires { ⌜ Paired (now opposite) (length (now sets)) × (length (now owners) ≡ length (now sets)) × (length (now sets) ≤ 1024) ⌝ }
+    ensures { λ r. ⌜ RepairedBy way (now (opposite .entry)) (map ownersOf (now (sets .entry))) (now (owners .entry)) r (now (owners .exit)) ⌝ }
+{
+    if way != 0 {
+        return Repaired::Refused(54, 0);
+    }
+    by_priority(opposite, sets, owners)
 }

@@ -5,18 +5,18 @@ use lib.ListN.{length}
 use Rattle.lent.specs.Stages.{andThen}
 use Rattle.lent.specs.Answered.{Outcome, bytes}
 use Rattle.lent_little.specs.Held.{sideHeld}
-use Rattle.repair.specs.Repair.{Choice, repaired}
+use Rattle.repair.specs.Ways.{repairedBy}
 use Rattle.repair_sides.specs.Numbered.{boundaryNumbers}
 use Rattle.repair_answers.specs.Answers.{numbersAfter}
 
--- The number of each triangle after repair.
-abbrev pub ownersOutcome : Choice → List ℕ → List (List ℕ) → Outcome
-ownersOutcome choice opposite owners = andThen (repaired choice opposite owners) numbersAfter
+-- The number of each triangle after repair in a way.
+abbrev pub ownersOutcome : ℕ → List ℕ → List (List ℕ) → Outcome
+ownersOutcome way opposite owners = andThen (repairedBy way opposite owners) numbersAfter
 
 -- The boundary sides of a polygon by number, each as its 16 bytes off the held numbers; the item is the number of sides.
 abbrev pub sidesHeld : List ℕ → List ℕ → Outcome
 sidesHeld numbers l = bytes (length l) (flatMap (sideHeld numbers) l)
 
--- The boundary sides of a polygon after repair.
-abbrev pub sidesOutcome : List ℕ → Choice → List ℕ → List (List ℕ) → ℕ → Outcome
-sidesOutcome numbers choice opposite owners polygon = andThen (repaired choice opposite owners) (λ l. sidesHeld numbers (boundaryNumbers opposite l polygon))
+-- The boundary sides of a polygon after repair in a way.
+abbrev pub sidesOutcome : List ℕ → ℕ → List ℕ → List (List ℕ) → ℕ → Outcome
+sidesOutcome numbers way opposite owners polygon = andThen (repairedBy way opposite owners) (λ l. sidesHeld numbers (boundaryNumbers opposite l polygon))

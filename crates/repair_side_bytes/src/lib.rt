@@ -9,7 +9,6 @@ ghost use Rattle.lent_little.specs.Held.{SideIn, sideHeld};
 ghost use Rattle.lent.specs.Answered.{Answered};
 ghost use Rattle.owners_marks.specs.Sets.{ownersOf};
 ghost use Rattle.repair_regions.specs.Spreading.{Paired};
-ghost use Rattle.repair.specs.Repair.{largest};
 ghost use Rattle.repair_answers.specs.Held.{sidesOutcome};
 
 // Writes side k of the table, off the numbers form: the coordinates of corner k, then those of the next corner of its triangle.
@@ -37,9 +36,10 @@ fn write_sides(numbers: &[u32], sides: &[usize], out: &mut [u8])
     }
 }
 
-// Each side uv of the polygon's triangles after repair whose vu is no side of those, 16 bytes each, by triangle and then ab, bc, ca; a
+// Each side uv of the polygon's triangles after repair in a way whose vu is no side of those, 16 bytes each, by triangle and then ab, bc, ca; a
 // refusal of repair is passed on.
 pub fn boundary(
+    way: u32,
     numbers: &[u32],
     opposite: &[usize],
     sets: &[u64],
@@ -47,13 +47,13 @@ pub fn boundary(
     out: &mut [u8],
 ) -> u64
     requires { ⌜ Paired (now opposite) (length (now sets)) × (length (now sets) ≤ 1024) × (1 + 6 * length (now sets) ≤ length (now numbers)) ⌝ }
-    ensures { λ r. ⌜ Answered (sidesOutcome (now (numbers .entry)) (largest (now (opposite .entry))) (now (opposite .entry)) (map ownersOf (now (sets .entry))) polygon) (now (out .entry)) r (now (out .exit)) ⌝ }
+    ensures { λ r. ⌜ Answered (sidesOutcome (now (numbers .entry)) way (now (opposite .entry)) (map ownersOf (now (sets .entry))) polygon) (now (out .entry)) r (now (out .exit)) ⌝ }
 {
     let n = sets.len();
     let m = opposite.len();
     let mut owners = [0u8; 1024];
     let mut sides = [0usize; 3072];
-    let repaired = repair::repair(opposite, sets, &mut owners[..n]);
+    let repaired = repair::repair(way, opposite, sets, &mut owners[..n]);
     if let repair::Repaired::Refused(code, item) = repaired {
         return item as u64 * 256 + code as u64;
     }

@@ -1,6 +1,7 @@
-// The entries that both products call, on numbers and byte slices only. Each answers item × 256 + code, and only fills in what is asked.
+// The entries that both products call, on numbers and byte slices only. Each answers item × 256 + code, and only fills in what is asked. Those that
+// take no mode and no way are the others in mode 0 and way 0.
 ghost use Rattle.lent.specs.Answered.{Answered};
-ghost use Rattle.outcomes.specs.Entries.{sheetNumbers, sheetPosition, sheetWrite, sheetOwnerSets, sheetOwners, sheetBoundary, sheetListing};
+ghost use Rattle.outcomes.specs.Entries.{sheetNumbers, sheetNumbersBy, sheetPosition, sheetWrite, sheetOwnerSets, sheetOwnerSetsBy, sheetOwners, sheetOwnersBy, sheetBoundary, sheetBoundaryBy, sheetListing, sheetListingBy};
 use outcomes::Asked;
 use outcomes::Wanted;
 
@@ -9,7 +10,7 @@ use outcomes::Wanted;
 pub extern "C" fn sheet_numbers(sheet: &[u8], out: &mut [u8]) -> u64
     ensures { λ r. ⌜ Answered (sheetNumbers (now (sheet .entry))) (now (out .entry)) r (now (out .exit)) ⌝ }
 {
-    sheets_answers::numbers(sheet, out)
+    sheet_numbers_by(sheet, 0, out)
 }
 
 // Where in the file: the answer of sheet_numbers with room enough, and the byte position of the field at fault, each as a little-endian u64; the item
@@ -35,13 +36,7 @@ pub extern "C" fn sheet_write(numbers: &[u8], out: &mut [u8]) -> u64
 pub extern "C" fn sheet_owner_sets(sheet: &[u8], out: &mut [u8]) -> u64
     ensures { λ r. ⌜ Answered (sheetOwnerSets (now (sheet .entry))) (now (out .entry)) r (now (out .exit)) ⌝ }
 {
-    sheets_answers::answer(
-        Asked {
-            wanted: Wanted::OwnerSets,
-        },
-        sheet,
-        out,
-    )
+    sheet_owner_sets_by(sheet, 0, out)
 }
 
 // The number of each triangle after repair, one byte each, in table order; the item is the number of triangles.
@@ -49,13 +44,7 @@ pub extern "C" fn sheet_owner_sets(sheet: &[u8], out: &mut [u8]) -> u64
 pub extern "C" fn sheet_owners(sheet: &[u8], out: &mut [u8]) -> u64
     ensures { λ r. ⌜ Answered (sheetOwners (now (sheet .entry))) (now (out .entry)) r (now (out .exit)) ⌝ }
 {
-    sheets_answers::answer(
-        Asked {
-            wanted: Wanted::Owners,
-        },
-        sheet,
-        out,
-    )
+    sheet_owners_by(sheet, 0, 0, out)
 }
 
 // The boundary sides of a polygon of the sheet after repair: ux, uy, vx, vy as little-endian i32 for each; the item is the number of sides.
@@ -63,13 +52,7 @@ pub extern "C" fn sheet_owners(sheet: &[u8], out: &mut [u8]) -> u64
 pub extern "C" fn sheet_boundary(sheet: &[u8], polygon: u32, out: &mut [u8]) -> u64
     ensures { λ r. ⌜ Answered (sheetBoundary polygon (now (sheet .entry))) (now (out .entry)) r (now (out .exit)) ⌝ }
 {
-    sheets_answers::answer(
-        Asked {
-            wanted: Wanted::Boundary(polygon),
-        },
-        sheet,
-        out,
-    )
+    sheet_boundary_by(sheet, 0, 0, polygon, out)
 }
 
 // The printed listing of a sheet; the item is the number of bytes. A refused sheet has a listing too.
@@ -77,5 +60,76 @@ pub extern "C" fn sheet_boundary(sheet: &[u8], polygon: u32, out: &mut [u8]) -> 
 pub extern "C" fn sheet_listing(sheet: &[u8], out: &mut [u8]) -> u64
     ensures { λ r. ⌜ Answered (sheetListing (now (sheet .entry))) (now (out .entry)) r (now (out .exit)) ⌝ }
 {
-    sheets_answers::listing(sheet, out)
+    sheet_listing_by(sheet, 0, 0, out)
+}
+
+// ---- the entries that take what is asked as numbers
+// The numbers of a sheet that is read in a mode: 0 the present edition, 1 the older one, whose rings are turned.
+#[no_mangle]
+pub extern "C" fn sheet_numbers_by(sheet: &[u8], mode: u32, out: &mut [u8]) -> u64
+    ensures { λ r. ⌜ Answered (sheetNumbersBy mode (now (sheet .entry))) (now (out .entry)) r (now (out .exit)) ⌝ }
+{
+    sheets_answers::numbers(sheet, mode, out)
+}
+
+// The owners of each triangle before repair, of a sheet that is read in a mode.
+#[no_mangle]
+pub extern "C" fn sheet_owner_sets_by(sheet: &[u8], mode: u32, out: &mut [u8]) -> u64
+    ensures { λ r. ⌜ Answered (sheetOwnerSetsBy mode (now (sheet .entry))) (now (out .entry)) r (now (out .exit)) ⌝ }
+{
+    sheets_answers::answer(
+        Asked {
+            mode: mode,
+            way: 0,
+            wanted: Wanted::OwnerSets,
+        },
+        sheet,
+        out,
+    )
+}
+
+// The number of each triangle after repair in a way, of a sheet that is read in a mode.
+#[no_mangle]
+pub extern "C" fn sheet_owners_by(sheet: &[u8], mode: u32, way: u32, out: &mut [u8]) -> u64
+    ensures { λ r. ⌜ Answered (sheetOwnersBy mode way (now (sheet .entry))) (now (out .entry)) r (now (out .exit)) ⌝ }
+{
+    sheets_answers::answer(
+        Asked {
+            mode: mode,
+            way: way,
+            wanted: Wanted::Owners,
+        },
+        sheet,
+        out,
+    )
+}
+
+// The boundary sides of a polygon after repair in a way, of a sheet that is read in a mode.
+#[no_mangle]
+pub extern "C" fn sheet_boundary_by(
+    sheet: &[u8],
+    mode: u32,
+    way: u32,
+    polygon: u32,
+    out: &mut [u8],
+) -> u64
+    ensures { λ r. ⌜ Answered (sheetBoundaryBy mode way polygon (now (sheet .entry))) (now (out .entry)) r (now (out .exit)) ⌝ }
+{
+    sheets_answers::answer(
+        Asked {
+            mode: mode,
+            way: way,
+            wanted: Wanted::Boundary(polygon),
+        },
+        sheet,
+        out,
+    )
+}
+
+// The printed listing of a sheet that is read in a mode and repaired in a way.
+#[no_mangle]
+pub extern "C" fn sheet_listing_by(sheet: &[u8], mode: u32, way: u32, out: &mut [u8]) -> u64
+    ensures { λ r. ⌜ Answered (sheetListingBy mode way (now (sheet .entry))) (now (out .entry)) r (now (out .exit)) ⌝ }
+{
+    sheets_answers::listing(sheet, mode, way, out)
 }

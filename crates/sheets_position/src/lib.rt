@@ -16,12 +16,12 @@ fn tell(answer: u64, position: u64, out: &mut [u8]) -> u64
     4096
 }
 
-// The answer of the numbers entry with room enough, and the byte position of the field at fault, 0 where the sheet is read. In a mode that is not 0
-// the answer told is 57. Reading counts the numbers, and needs no room for them.
+// The answer of the numbers entry in the mode with room enough, and the byte position of the field at fault, 0 where the sheet is read. In an unknown
+// mode the answer told is 57. Reading counts the numbers, and needs no room for them; turning rings changes no count and no refusal.
 pub fn position(sheet: &[u8], mode: u32, out: &mut [u8]) -> u64
     ensures { λ r. ⌜ Answered (sheetPosition mode (now (sheet .entry))) (now (out .entry)) r (now (out .exit)) ⌝ }
 {
-    if mode != 0 {
+    if 1 < mode {
         return tell(57, 0, out);
     }
     let mut none = [0u32; 1];

@@ -32,7 +32,8 @@ fn each_entry() {
         ("200 mixed ones", (0..200).map(generate).collect()),
     ];
     let judging = [Entry::OwnerSets, Entry::Owners, Entry::Boundary(1), Entry::Listing];
-    let entries = [&[Entry::Numbers, Entry::Position(0), Entry::Write], &judging[..]].concat();
+    let reading = [Entry::Numbers, Entry::NumbersBy(0), Entry::NumbersBy(1), Entry::Position(0), Entry::Write];
+    let entries = [&reading[..], &judging].concat();
     for (name, sheets) in &rows {
         for &entry in &entries {
             let inputs = inputs(entry, sheets);
@@ -68,15 +69,22 @@ fn inputs(entry: Entry, sheets: &[Vec<u8>]) -> Vec<Vec<u8>> {
     }
 }
 
-fn word(entry: Entry) -> &'static str {
+/// The entry's name, and the mode of those that take one.
+fn word(entry: Entry) -> String {
+    let by = |name: &str, mode: u32| format!("{name}, mode {mode}");
     match entry {
-        Entry::Numbers => "sheet_numbers",
-        Entry::Write => "sheet_write",
-        Entry::OwnerSets => "sheet_owner_sets",
-        Entry::Owners => "sheet_owners",
-        Entry::Boundary(_) => "sheet_boundary",
-        Entry::Listing => "sheet_listing",
-        Entry::Position(_) => "sheet_position",
+        Entry::Numbers => "sheet_numbers".into(),
+        Entry::Write => "sheet_write".into(),
+        Entry::OwnerSets => "sheet_owner_sets".into(),
+        Entry::Owners => "sheet_owners".into(),
+        Entry::Boundary(_) => "sheet_boundary".into(),
+        Entry::Listing => "sheet_listing".into(),
+        Entry::Position(mode) => by("sheet_position", mode),
+        Entry::NumbersBy(mode) => by("sheet_numbers_by", mode),
+        Entry::OwnerSetsBy(mode) => by("sheet_owner_sets_by", mode),
+        Entry::OwnersBy(mode, _) => by("sheet_owners_by", mode),
+        Entry::BoundaryBy(mode, ..) => by("sheet_boundary_by", mode),
+        Entry::ListingBy(mode, _) => by("sheet_listing_by", mode),
     }
 }
 

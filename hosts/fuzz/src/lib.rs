@@ -15,11 +15,15 @@ const LENT: u8 = 0xa7;
 pub unsafe extern "C" fn LLVMFuzzerTestOneInput(data: *const u8, size: usize) -> i32 {
     let input = if size == 0 { &[] } else { std::slice::from_raw_parts(data, size) };
     let asked = u32::from(input.last().copied().unwrap_or(0) % 5);
-    let reading = [Entry::Numbers, Entry::Position(0), Entry::Position(asked)];
+    let reading = [Entry::Numbers, Entry::NumbersBy(1), Entry::NumbersBy(asked), Entry::Position(0), Entry::Position(asked)];
     let entries = [Entry::OwnerSets, Entry::Owners, Entry::Boundary(asked), Entry::Listing, Entry::Write];
-    let mut difference = reading.into_iter().chain(entries).find_map(|entry| compare(entry, input));
-    if let Ok(numbers) = whole(Entry::Numbers, input) {
-        difference = difference.or_else(|| compare(Entry::Write, &numbers.bytes));
+    let way = asked / 4 * 2;
+    let older = [Entry::OwnerSetsBy(1), Entry::OwnersBy(1, way), Entry::BoundaryBy(1, way, asked), Entry::ListingBy(1, way)];
+    let mut difference = reading.into_iter().chain(entries).chain(older).find_map(|entry| compare(entry, input));
+    for mode in [0, 1] {
+        if let Ok(numbers) = whole(Entry::NumbersBy(mode), input) {
+            difference = difference.or_else(|| compare(Entry::Write, &numbers.bytes));
+        }
     }
     if let Some(difference) = difference {
         let file = std::env::var("DIFFERENCE").unwrap_or("difference.wkb".into());

@@ -1,14 +1,14 @@
 //! Calls of the library that stands behind a bridge, a program on the other side of two pipes.
 //!
-//! A call is the frame u8 function (0 numbers, 1 write, 2 owner sets, 3 owners, 4 boundary, 5 listing, 6 verdict, 7 position),
-//! u32 asked, a polygon or a mode, u32 input length, u32 room, then the input, all little-endian. The bridge calls the entry
-//! with so much room, and answers u64 packed answer and exactly `room` bytes: the lent bytes after the call, where lent byte i
-//! was (i * 131 + 17) % 256 before it.
+//! A call is the frame u8 function (by its place in `NAMES`), u32 mode, u32 way, u32 polygon, u32 input length, u32 room, then
+//! the input, all little-endian. What a function isn't asked for is 0. The bridge calls the entry with so much room, and answers
+//! u64 packed answer and exactly `room` bytes: the lent bytes after the call, where lent byte i was (i * 131 + 17) % 256 before
+//! it.
 //!
 //! A room of 2^32 - 1 asks for the bridge's wrapper, whose room is its own. The bridge answers u64 packed answer, put
 //! together from what the wrapper says; u32 length; and so many bytes, the wrapper's value turned back to bytes, none for a
-//! refusal. The wrapper alone has a verdict: its item is 0 and its value one byte, 0 for clean and 1 for repair. A wrapper's
-//! position is that of mode 0.
+//! refusal. The wrapper alone has a verdict: its item is 0 and its value one byte, 0 for clean and 1 for repair. A wrapper is
+//! asked in known modes and ways only; its functions without a mode are called where a verdict or a position has mode 0.
 //!
 //! Frames may come without waiting for answers; a bridge that has no frame left to take must have flushed its answers.
 
@@ -18,38 +18,73 @@ use std::io::Read;
 use std::process::{Child, Command, Stdio};
 
 /// The functions' names, by the numbers that they have in a frame.
-pub const NAMES: [&str; 8] = ["numbers", "write", "owner sets", "owners", "boundary", "listing", "verdict", "position"];
+pub const NAMES: [&str; 13] = [
+    "numbers",
+    "write",
+    "owner sets",
+    "owners",
+    "boundary",
+    "listing",
+    "verdict",
+    "position",
+    "numbers in a mode",
+    "owner sets in a mode",
+    "owners in a mode",
+    "boundary in a mode",
+    "listing in a mode",
+];
 
 /// What is called.
 #[derive(Clone, Copy, PartialEq, Eq, Debug)]
 pub enum Function {
-    /// An entry, with the polygon or the mode that is asked for.
+    /// An entry, with what is asked for.
     Entry(Entry),
-    /// A wrapper's verdict.
-    Verdict,
+    /// A wrapper's verdict in the mode of this number.
+    Verdict(u32),
 }
 
 impl Function {
-    /// The function's number in a frame, and the polygon or the mode asked for.
-    fn numbers(self) -> (usize, u32) {
+    /// The function's number in a frame, and the mode, the way and the polygon asked for.
+    fn numbers(self) -> (usize, [u32; 3]) {
         match self {
-            Function::Entry(Entry::Numbers) => (0, 0),
-            Function::Entry(Entry::Write) => (1, 0),
-            Function::Entry(Entry::OwnerSets) => (2, 0),
-            Function::Entry(Entry::Owners) => (3, 0),
-            Function::Entry(Entry::Boundary(asked)) => (4, asked),
-            Function::Entry(Entry::Listing) => (5, 0),
-            Function::Verdict => (6, 0),
-            Function::Entry(Entry::Position(mode)) => (7, mode),
+            Function::Entry(Entry::Numbers) => (0, [0; 3]),
+            Function::Entry(Entry::Write) => (1, [0; 3]),
+            Function::Entry(Entry::OwnerSets) => (2, [0; 3]),
+            Function::Entry(Entry::Owners) => (3, [0; 3]),
+            Function::Entry(Entry::Boundary(polygon)) => (4, [0, 0, polygon]),
+            Function::Entry(Entry::Listing) => (5, [0; 3]),
+            Function::Verdict(mode) => (6, [mode, 0, 0]),
+            Function::Entry(Entry::Position(mode)) => (7, [mode, 0, 0]),
+            Function::Entry(Entry::NumbersBy(mode)) => (8, [mode, 0, 0]),
+            Function::Entry(Entry::OwnerSetsBy(mode)) => (9, [mode, 0, 0]),
+            Function::Entry(Entry::OwnersBy(mode, way)) => (10, [mode, way, 0]),
+            Function::Entry(Entry::BoundaryBy(mode, way, polygon)) => (11, [mode, way, polygon]),
+            Function::Entry(Entry::ListingBy(mode, way)) => (12, [mode, way, 0]),
         }
+    }
+
+    /// The entry of this number in a frame, asked in this mode and way and for this polygon, if the function is an entry.
+    pub fn entry(number: usize, [mode, way, polygon]: [u32; 3]) -> Option<Entry> {
+        let plain = [Entry::Numbers, Entry::Write, Entry::OwnerSets, Entry::Owners, Entry::Listing];
+        let asked = [
+            Entry::Boundary(polygon),
+            Entry::Position(mode),
+            Entry::NumbersBy(mode),
+            Entry::OwnerSetsBy(mode),
+            Entry::OwnersBy(mode, way),
+            Entry::BoundaryBy(mode, way, polygon),
+            Entry::ListingBy(mode, way),
+        ];
+        let mut entries = plain.into_iter().chain(asked);
+        entries.find(|entry| Function::Entry(*entry).numbers().0 == number)
     }
 
     /// The right answer if there is room enough.
     pub fn whole(self, input: &Input) -> Result<Success, Refusal> {
         match self {
             Function::Entry(entry) => input.whole(entry),
-            Function::Verdict => {
-                let clean = input.judged()?.owners.iter().all(|set| set.count_ones() == 1);
+            Function::Verdict(mode) => {
+                let clean = input.judged_by(mode)?.owners.iter().all(|set| set.count_ones() == 1);
                 Ok(Success { item: 0, bytes: vec![u8::from(!clean)] })
             }
         }
@@ -98,8 +133,9 @@ impl Call {
 
     /// What stands for the call in a message.
     pub fn name(&self) -> String {
-        let (number, asked) = self.function.numbers();
-        format!("{} {} asked {asked} room {:?}", self.input, NAMES[number], self.room)
+        let (number, [mode, way, polygon]) = self.function.numbers();
+        let asked = format!("mode {mode} way {way} polygon {polygon}");
+        format!("{} {} {asked} room {:?}", self.input, NAMES[number], self.room)
     }
 
     /// The frame with this input.
@@ -110,7 +146,7 @@ impl Call {
             Room::Own => u32::MAX,
         };
         let mut frame = vec![number as u8];
-        for part in [asked, input.len() as u32, room] {
+        for part in asked.into_iter().chain([input.len() as u32, room]) {
             frame.extend(part.to_le_bytes());
         }
         frame.extend(input);
@@ -160,7 +196,7 @@ fn shown(packed: u64) -> String {
 }
 
 /// What lent byte i is before the call.
-fn before_call(i: usize) -> u8 {
+pub fn before_call(i: usize) -> u8 {
     (i.wrapping_mul(131).wrapping_add(17) % 256) as u8
 }
 

@@ -13,6 +13,7 @@ pub mod fields;
 mod ground;
 mod large;
 mod numbers;
+mod older;
 mod positions;
 mod reading;
 mod repair;
@@ -40,6 +41,7 @@ pub fn all() -> Vec<Case> {
         large::cases,
         numbers::cases,
         positions::cases,
+        older::cases,
     ];
     groups.iter().for_each(|group| group(&mut cases));
     cases.0
@@ -62,40 +64,52 @@ pub fn named(name: &str) -> Vec<u8> {
 mod tests {
     use super::*;
     use crate::entries::{answer, packed, whole, Entry};
-    use crate::listing::listing;
+    use crate::reading::Mode;
+    use crate::repair::WAYS;
     use crate::Refusal;
     use std::collections::BTreeSet;
 
-    const SHEET_ENTRIES: [Entry; 5] =
-        [Entry::Numbers, Entry::OwnerSets, Entry::Owners, Entry::Boundary(1), Entry::Boundary(u32::MAX)];
+    /// The entries that take a sheet in a mode and refuse it, asked for polygon 1 and for one that isn't there.
+    fn by(mode: u32, way: u32) -> [Entry; 5] {
+        let boundary = |polygon| Entry::BoundaryBy(mode, way, polygon);
+        let repaired = [Entry::OwnersBy(mode, way), boundary(1), boundary(u32::MAX)];
+        [[Entry::NumbersBy(mode), Entry::OwnerSetsBy(mode)].as_slice(), &repaired].concat().try_into().unwrap()
+    }
+
+    /// What is printed in this mode and way.
+    fn listed(mode: u32, way: u32, input: &[u8]) -> String {
+        String::from_utf8(whole(Entry::ListingBy(mode, way), input).unwrap().bytes).unwrap()
+    }
 
     /// The packed answer of an entry with all the room it wants, and what it writes.
     fn answered(entry: Entry, input: &[u8]) -> (u64, Option<Vec<u8>>) {
         answer(entry, input, usize::MAX)
     }
 
-    /// What the position entry tells in mode 0: a packed answer and a position.
-    fn positioned(input: &[u8]) -> (u64, u64) {
-        let told = whole(Entry::Position(0), input).unwrap();
+    /// What the position entry tells in this mode: a packed answer and a position.
+    fn positioned(mode: u32, input: &[u8]) -> (u64, u64) {
+        let told = whole(Entry::Position(mode), input).unwrap();
         let number = |at: usize| u64::from_le_bytes(told.bytes[at..at + 8].try_into().unwrap());
         assert_eq!((told.item, told.bytes.len()), (16, 16));
         (number(0), number(8))
     }
 
     /// Every entry that judges refuses so, one that reads only where reading does; and the listing says it.
-    fn is_refused(input: &[u8], refusal: Refusal) -> bool {
-        let entries = if refusal.code < 10 { &SHEET_ENTRIES[..] } else { &SHEET_ENTRIES[1..] };
+    fn is_refused(mode: u32, input: &[u8], refusal: Refusal) -> bool {
+        let entries = by(mode, 0);
+        let entries = if refusal.code < 10 { &entries[..] } else { &entries[1..] };
         let said = format!("refused {} {}\n", refusal.code, refusal.item);
-        let read = answered(Entry::Numbers, input).0 % 256 == 0;
+        let read = answered(Entry::NumbersBy(mode), input).0 % 256 == 0;
         let all = entries.iter().all(|entry| answered(*entry, input) == (packed(refusal), None));
-        all && listing(input) == said && read == (refusal.code >= 10)
+        all && listed(mode, 0, input) == said && read == (refusal.code >= 10)
     }
 
-    /// What is read is written by the numbers, and read as the same again.
-    fn is_read(input: &[u8]) -> bool {
-        let Ok(numbers) = whole(Entry::Numbers, input) else { return false };
+    /// What is read is written by the numbers, and read as the same again, in the mode that it was read in and in the present
+    /// one.
+    fn is_read(mode: u32, input: &[u8]) -> bool {
+        let Ok(numbers) = whole(Entry::NumbersBy(mode), input) else { return false };
         let Ok(written) = whole(Entry::Write, &numbers.bytes) else { return false };
-        whole(Entry::Numbers, &written.bytes) == Ok(numbers)
+        [0, mode].iter().all(|mode| whole(Entry::NumbersBy(*mode), &written.bytes).as_ref() == Ok(&numbers))
     }
 
     /// What is written is read as the same numbers.
@@ -104,23 +118,24 @@ mod tests {
         answered(Entry::Numbers, &written.bytes).1.as_deref() == Some(numbers)
     }
 
-    fn is_so(Case { input, outcome, .. }: &Case) -> bool {
+    fn is_so(mode: u32, input: &[u8], outcome: &Outcome) -> bool {
         match outcome {
-            Outcome::Read => is_read(input),
+            Outcome::Read => is_read(mode, input),
             Outcome::Sets(sets) => {
                 let bytes = sets.iter().flat_map(|set| set.to_le_bytes()).collect();
                 let unowned = sets.iter().all(|set| *set == 0);
-                let judged = answered(Entry::OwnerSets, input) == (256 * sets.len() as u64, Some(bytes));
-                judged && (answered(Entry::Owners, input) == (30, None)) == unowned
+                let judged = answered(Entry::OwnerSetsBy(mode), input) == (256 * sets.len() as u64, Some(bytes));
+                judged && (answered(Entry::OwnersBy(mode, 0), input) == (30, None)) == unowned
             }
             Outcome::Repaired(numbers) => {
-                answered(Entry::Owners, input) == (256 * numbers.len() as u64, Some(numbers.clone()))
+                answered(Entry::OwnersBy(mode, 0), input) == (256 * numbers.len() as u64, Some(numbers.clone()))
             }
-            Outcome::Refused(code, item) => is_refused(input, Refusal::new(*code, *item)),
+            Outcome::Refused(code, item) => is_refused(mode, input, Refusal::new(*code, *item)),
             Outcome::Unread(code, item, position) => {
                 let refusal = Refusal::new(*code, *item);
-                is_refused(input, refusal) && positioned(input) == (packed(refusal), *position)
+                is_refused(mode, input, refusal) && positioned(mode, input) == (packed(refusal), *position)
             }
+            Outcome::InModes(present, older) => is_so(0, input, present) && is_so(1, input, older),
             Outcome::Written => is_written(input),
             Outcome::NotWritten => answered(Entry::Write, input) == (42, None),
         }
@@ -128,8 +143,41 @@ mod tests {
 
     #[test]
     fn cases_are_answered_as_document_01_says() {
-        let wrong: Vec<String> = all().into_iter().filter(|case| !is_so(case)).map(|case| case.name).collect();
-        assert_eq!(wrong, Vec::<String>::new());
+        let wrong = all().into_iter().filter(|case| !is_so(0, &case.input, &case.outcome)).map(|case| case.name);
+        assert_eq!(wrong.collect::<Vec<String>>(), Vec::<String>::new());
+    }
+
+    /// The sheets made by hand, and those spoiled at each field, by name.
+    fn sheets() -> impl Iterator<Item = (String, Vec<u8>)> {
+        let sheets = all().into_iter().filter(Case::is_sheet).map(|case| (case.name, case.input));
+        sheets.chain(fields::spoiled())
+    }
+
+    #[test]
+    fn mode_0_and_way_0_are_those_of_the_entries_without_them() {
+        for (name, input) in sheets() {
+            let boundaries = [1, u32::MAX].map(Entry::Boundary);
+            let without = [&[Entry::Numbers, Entry::OwnerSets, Entry::Owners][..], &boundaries].concat();
+            for (entry, without) in by(0, 0).into_iter().zip(without) {
+                assert_eq!(whole(entry, &input), whole(without, &input), "{name}");
+            }
+            assert_eq!(whole(Entry::ListingBy(0, 0), &input), whole(Entry::Listing, &input), "{name}");
+        }
+    }
+
+    #[test]
+    fn reading_and_the_table_are_refused_alike_in_both_modes() {
+        for (name, input) in sheets() {
+            let refused =
+                |mode: u32| [Entry::NumbersBy(mode), Entry::OwnerSetsBy(mode)].map(|entry| whole(entry, &input));
+            let before_polygons = refused(0).map(|answer| answer.err().filter(|refusal| refusal.code < 20));
+            assert_eq!(
+                before_polygons,
+                refused(1).map(|answer| answer.err().filter(|refusal| refusal.code < 20)),
+                "{name}"
+            );
+            assert_eq!(positioned(0, &input), positioned(1, &input), "{name}");
+        }
     }
 
     #[test]
@@ -151,32 +199,78 @@ mod tests {
 
     #[test]
     fn a_position_comes_with_the_answer_of_the_numbers_entry() {
-        let sheets = all().into_iter().filter(Case::is_sheet).map(|case| (case.name, case.input));
-        for (name, input) in sheets.chain(fields::spoiled()) {
-            let (told, position) = positioned(&input);
+        for (name, input) in sheets() {
+            let (told, position) = positioned(0, &input);
             assert_eq!(told, answered(Entry::Numbers, &input).0, "{name}");
             assert!(position <= input.len() as u64 && (position == 0 || (1..=8).contains(&(told % 256))), "{name}");
         }
     }
 
     #[test]
-    fn a_position_has_16_bytes_and_modes_above_0_are_unknown() {
+    fn a_position_has_16_bytes_in_every_mode() {
         let strip = named("strip");
         let told = |answer: u64| Some([answer, 0].map(u64::to_le_bytes).concat());
-        for (mode, right) in [(0, 304 * 256), (1, 57), (2, 57), (7, 57), (256, 57), (u32::MAX, 57)] {
+        for (mode, right) in [(0, 304 * 256), (1, 304 * 256), (7, 57), (256, 57), (u32::MAX, 57)] {
             let with = |room: usize| answer(Entry::Position(mode), &strip, room);
             assert_eq!([0, 1, 15].map(with), [(40, None), (40, None), (40, None)]);
             assert_eq!([16, 17].map(with), [(16 * 256, told(right)), (16 * 256, told(right))]);
         }
-        assert_eq!(answer(Entry::Position(1), &strip[..300], 16), (16 * 256, told(57)));
+        assert_eq!(answer(Entry::Position(7), &strip[..300], 16), (16 * 256, told(57)));
         assert_eq!(answer(Entry::Position(0), &[], 15), (40, None));
+    }
+
+    /// A request that adds a mode or a way changes these numbers.
+    #[test]
+    fn two_modes_and_one_way_are_known() {
+        let clean = named("clean");
+        let numbers = || (0..600).chain([1 << 16, (1 << 16) + 1, 1 << 31, (1 << 31) + 1, u32::MAX]);
+        let modes = numbers().filter(|mode| answered(Entry::NumbersBy(*mode), &clean) != (57, None));
+        let ways = numbers().filter(|way| answered(Entry::OwnersBy(0, *way), &clean) != (54, None));
+        assert_eq!((modes.collect(), ways.collect()), (vec![0, 1], WAYS.to_vec()));
+        assert!(numbers().all(|mode| (mode < 2) == Mode::numbered(mode).is_ok()) && WAYS == [0]);
+    }
+
+    #[test]
+    fn a_mode_that_is_not_known_is_refused_before_everything_else() {
+        for input in
+            [vec![], named("clean"), named("no-polygons"), named("not-carried"), named("a byte after the sheet")]
+        {
+            for (mode, way) in [(7, 0), (256, 0), (1 << 31, 0), (u32::MAX, 0), (7, 2), (7, u32::MAX)] {
+                assert!(by(mode, way).iter().all(|entry| answer(*entry, &input, 0) == (57, None)));
+                assert_eq!(listed(mode, way, &input), "refused 57 0\n");
+            }
+        }
+    }
+
+    #[test]
+    fn a_way_that_is_not_known_is_refused_after_41_and_before_30_and_40() {
+        let lines = "sheet 8 2\npolygon 1 32\npolygon 2 32\ngap 0 0\noverlap 0 0\nverdict clean\nrefused 54 0\n";
+        let none = "sheet 8 0\ngap 8 64\noverlap 0 0\nverdict repair\nrefused 54 0\n";
+        for (mode, way) in [(0, 2), (1, 2), (0, 256), (1, 1 << 31), (0, u32::MAX)] {
+            let code = |entry: Entry, name: &str| answer(entry, &named(name), 0).0;
+            let boundary = |polygon| Entry::BoundaryBy(mode, way, polygon);
+            for name in ["clean", "strip", "gaps-and-overlaps"] {
+                assert_eq!(
+                    [Entry::OwnersBy(mode, way), boundary(1)].map(|entry| code(entry, name)),
+                    [54, 54],
+                    "{name}"
+                );
+                assert_eq!([0, 5, u32::MAX].map(|polygon| code(boundary(polygon), name)), [41, 41, 41], "{name}");
+            }
+            let entries = [Entry::OwnersBy(mode, way), boundary(1), boundary(0)];
+            assert_eq!(entries.map(|entry| code(entry, "no-polygons")), [54, 41, 41]);
+            assert_eq!(entries.map(|entry| code(entry, "not-carried")), [532, 532, 532]);
+            assert_eq!(entries.map(|entry| code(entry, "no-ground")), [533, 533, 533]);
+            let printed = ["clean", "no-polygons", "not-carried"].map(|name| listed(mode, way, &named(name)));
+            assert_eq!(printed, [lines, none, "refused 20 2\n"]);
+        }
     }
 
     #[test]
     fn every_code_of_reading_comes_of_a_spoiled_field() {
         let spoiled = fields::spoiled();
         let codes: BTreeSet<u64> = spoiled.iter().map(|(_, input)| answered(Entry::Numbers, input).0 % 256).collect();
-        assert!(is_read(&fields::every_place().bytes()));
+        assert!(is_read(0, &fields::every_place().bytes()));
         assert_eq!(codes, BTreeSet::from([0, 1, 2, 3, 4, 5, 6, 7, 8]));
     }
 }

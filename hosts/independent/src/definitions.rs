@@ -5,10 +5,12 @@ use crate::cases::{self, Case};
 use crate::generate::generate;
 use crate::ownership::{judge, judge_sheet, member_double_area, Judged, PointsInside};
 use crate::plane::{double_area, sides};
-use crate::reading::{read_or_fault, Fault};
+use crate::reading::{read, read_in, read_or_fault, Fault, Mode};
 use crate::repair::{boundary_sides, repair};
 use crate::table::{frame, Table};
-use crate::{reading, Member, Point, Refusal, Side, Triangle};
+use crate::turning::turned;
+use crate::writing::write;
+use crate::{Member, Part, Point, Refusal, Ring, Sheet, Side, Triangle};
 use std::collections::BTreeMap;
 
 /// What a boundary gives to each ordered pair, where it isn't 0.
@@ -185,15 +187,16 @@ fn inputs() -> impl Iterator<Item = (String, Vec<u8>)> {
 fn rules_and_judging_agree_on_small_sheets() {
     let (mut tables, mut sheets, mut judgings) = (0, 0, [0; 3]);
     for (name, input) in inputs() {
-        let Ok(sheet) = reading::read(&input) else { continue };
+        let Ok(sheet) = read(&input) else { continue };
         if sheet.triangles.len() > 40 {
             continue;
         }
         let table = Table::check(&sheet.triangles);
         assert_eq!(table.as_ref().err().copied(), table_refusal(&sheet.triangles), "{name}");
         tables += 1;
-        if let (Ok(table), true) = (table, sheet.triangles.len() <= 9) {
-            let counts = compare_judgings(&name, &table, &sheet.polygons, judge_sheet(&input).err());
+        let Some(table) = table.ok().filter(|_| sheet.triangles.len() <= 9) else { continue };
+        for (mode, sheet) in [(Mode::Present, sheet.clone()), (Mode::Older, older(&sheet))] {
+            let counts = compare_judgings(&name, &table, &sheet.polygons, judge_sheet(mode, &input).err());
             counts.iter().zip(&mut judgings).for_each(|(count, all)| *all += count);
             sheets += 1;
         }
@@ -206,7 +209,7 @@ fn rules_and_judging_agree_on_small_sheets() {
 fn repair_and_areas_agree_on_small_sheets() {
     let mut sheets = 0;
     for (name, input) in inputs() {
-        let Ok(judged) = judge_sheet(&input) else { continue };
+        let Ok(judged) = judge_sheet(Mode::Present, &input) else { continue };
         compare_areas(&name, &judged);
         assert_eq!(repair(&judged.table, &judged.owners).is_err(), judged.sheet.polygons.is_empty(), "{name}");
         if judged.owners.len() <= 40 {
@@ -215,6 +218,52 @@ fn repair_and_areas_agree_on_small_sheets() {
         }
     }
     assert!(sheets > 3_000, "{sheets} sheets");
+}
+
+/// A ring's double area: those of the triangles from its first point to each of its edges, added up.
+fn ring_area(ring: &Ring) -> i64 {
+    ring.windows(2).map(|edge| double_area(&[ring[0], edge[0], edge[1]])).sum()
+}
+
+/// The sheet as the older mode reads it: in each polygon the first ring with its points in reverse order if its double area is
+/// negative, every later one if its own is positive.
+fn older(sheet: &Sheet) -> Sheet {
+    let ring = |(place, ring): (usize, &Ring)| {
+        let wrong = if place == 0 { ring_area(ring) < 0 } else { ring_area(ring) > 0 };
+        let last = ring.len() - 1;
+        (0..=last).map(|k| ring[if wrong { last - k } else { k }]).collect()
+    };
+    let part = |part: &Part| part.iter().enumerate().map(ring).collect();
+    let polygons = sheet.polygons.iter().map(|member| member.iter().map(part).collect()).collect();
+    Sheet { triangles: sheet.triangles.clone(), polygons }
+}
+
+/// How many first rings of a sheet's polygons, and how many later ones, have a negative, no, and a positive double area.
+fn count_directions(sheet: &Sheet, counts: &mut [[usize; 3]; 2]) {
+    for part in sheet.polygons.iter().flatten() {
+        for (place, ring) in part.iter().enumerate() {
+            counts[place.min(1)][(ring_area(ring).signum() + 1) as usize] += 1;
+        }
+    }
+}
+
+/// The older mode's reading is the turning of the present one's; turning twice is turning once; and both modes read alike what
+/// is written of it.
+#[test]
+fn rings_are_turned_once() {
+    let (mut counts, mut changed) = ([[0; 3]; 2], 0);
+    for (name, input) in inputs() {
+        let Ok(present) = read(&input) else { continue };
+        count_directions(&present, &mut counts);
+        let right = older(&present);
+        changed += usize::from(right != present);
+        assert_eq!(read_in(Mode::Older, &input), Ok(right.clone()), "{name}");
+        assert_eq!((turned(right.clone()), older(&right)), (right.clone(), right.clone()), "{name}");
+        let written = write(&right);
+        let again = [Mode::Present, Mode::Older].map(|mode| read_in(mode, &written));
+        assert_eq!(again, [Ok(right.clone()), Ok(right)], "{name}");
+    }
+    assert!(changed > 1_000 && counts.iter().flatten().all(|count| *count > 300), "{changed} changed, {counts:?}");
 }
 
 /// The bytes of the field at fault from its position on.

@@ -1,8 +1,9 @@
 //! The entries: what each answers, and what it writes at the front of the lent bytes.
 
 use crate::ownership::{judge_sheet, Judged};
-use crate::repair::{boundary_sides, repair};
-use crate::{listing, reading, writing, Refusal};
+use crate::reading::{read_in, read_or_fault, Mode};
+use crate::repair::{boundary_sides, repaired};
+use crate::{listing, writing, Refusal};
 use std::cell::OnceCell;
 
 /// One of the entries called from outside.
@@ -22,6 +23,16 @@ pub enum Entry {
     Listing,
     /// Where reading stops, in the mode of this number; it answers no refusal but 40.
     Position(u32),
+    /// The numbers entry in the mode of this number.
+    NumbersBy(u32),
+    /// The set entry in the mode of this number.
+    OwnerSetsBy(u32),
+    /// The owner entry in the mode and the way of these numbers.
+    OwnersBy(u32, u32),
+    /// The boundary entry in the mode and the way of these numbers, asked for the polygon of the third.
+    BoundaryBy(u32, u32, u32),
+    /// The printed listing in the mode and the way of these numbers, which answers no refusal but 40.
+    ListingBy(u32, u32),
 }
 
 /// What an entry would write if enough bytes were lent, and the item of its success.
@@ -60,46 +71,67 @@ pub fn whole(entry: Entry, input: &[u8]) -> Result<Success, Refusal> {
     Input::new(input).whole(entry)
 }
 
-/// The input of entries, whose polygons are judged once for all of them.
+/// The input of entries, whose polygons are judged once in each mode for all of them.
 pub struct Input<'a> {
     bytes: &'a [u8],
-    judged: OnceCell<Result<Judged, Refusal>>,
+    present: OnceCell<Result<Judged, Refusal>>,
+    older: OnceCell<Result<Judged, Refusal>>,
 }
 
 impl<'a> Input<'a> {
     /// The input of these bytes.
     pub fn new(bytes: &'a [u8]) -> Input<'a> {
-        Input { bytes, judged: OnceCell::new() }
+        Input { bytes, present: OnceCell::new(), older: OnceCell::new() }
     }
 
-    /// The judged sheet, or why there is none.
-    pub fn judged(&self) -> Result<&Judged, Refusal> {
-        self.judged.get_or_init(|| judge_sheet(self.bytes)).as_ref().map_err(|refusal| *refusal)
+    /// The sheet judged in this mode, or why there is none.
+    pub fn judged(&self, mode: Mode) -> Result<&Judged, Refusal> {
+        let judged = match mode {
+            Mode::Present => &self.present,
+            Mode::Older => &self.older,
+        };
+        judged.get_or_init(|| judge_sheet(mode, self.bytes)).as_ref().map_err(|refusal| *refusal)
+    }
+
+    /// The sheet judged in the mode of this number: 57 comes before all else.
+    pub fn judged_by(&self, mode: u32) -> Result<&Judged, Refusal> {
+        self.judged(Mode::numbered(mode)?)
     }
 
     /// An entry's answer if enough bytes are lent.
     pub fn whole(&self, entry: Entry) -> Result<Success, Refusal> {
         match entry {
-            Entry::Numbers => reading::read(self.bytes).map(|sheet| counted(writing::numbers(&sheet))),
+            Entry::Numbers => self.numbers(Mode::Present),
             Entry::Write => writing::take_numbers(self.bytes).map(|sheet| counted(writing::write(&sheet))),
-            Entry::OwnerSets => Ok(owner_sets(self.judged()?)),
-            Entry::Owners => owners(self.judged()?),
-            Entry::Boundary(asked) => boundary(self.judged()?, asked),
-            Entry::Listing => Ok(counted(listing::of(self.judged()).into_bytes())),
-            Entry::Position(mode) => Ok(position(self.bytes, mode)),
+            Entry::OwnerSets => Ok(owner_sets(self.judged(Mode::Present)?)),
+            Entry::Owners => owners(self.judged(Mode::Present)?, 0),
+            Entry::Boundary(asked) => boundary(self.judged(Mode::Present)?, 0, asked),
+            Entry::Listing => Ok(counted(listing::of(self.judged(Mode::Present), 0).into_bytes())),
+            Entry::Position(mode) => Ok(self.position(mode)),
+            Entry::NumbersBy(mode) => self.numbers(Mode::numbered(mode)?),
+            Entry::OwnerSetsBy(mode) => Ok(owner_sets(self.judged_by(mode)?)),
+            Entry::OwnersBy(mode, way) => owners(self.judged_by(mode)?, way),
+            Entry::BoundaryBy(mode, way, asked) => boundary(self.judged_by(mode)?, way, asked),
+            Entry::ListingBy(mode, way) => Ok(counted(listing::of(self.judged_by(mode), way).into_bytes())),
         }
     }
-}
 
-/// The packed answer that the numbers entry gives with room enough, 57 in a mode that isn't known, and the position of the
-/// field at fault for its refusals, 0 for any other answer.
-fn position(bytes: &[u8], mode: u32) -> Success {
-    let (answer, position) = match (mode, reading::read_or_fault(bytes)) {
-        (0, Ok(sheet)) => (counted(writing::numbers(&sheet)).item * 256, 0),
-        (0, Err(fault)) => (packed(fault.refusal), fault.position as u64),
-        _ => (packed(Refusal::new(57, 0)), 0),
-    };
-    counted([answer, position].map(u64::to_le_bytes).concat())
+    fn numbers(&self, mode: Mode) -> Result<Success, Refusal> {
+        read_in(mode, self.bytes).map(|sheet| counted(writing::numbers(&sheet)))
+    }
+
+    /// The packed answer that the numbers entry gives in this mode with room enough, and the position of the field at fault
+    /// where reading refuses, 0 for any other answer.
+    fn position(&self, mode: u32) -> Success {
+        let answer = match self.whole(Entry::NumbersBy(mode)) {
+            Ok(success) => success.item * 256,
+            Err(refusal) => packed(refusal),
+        };
+        let known = Mode::numbered(mode).is_ok();
+        let fault = read_or_fault(self.bytes).err().filter(|_| known);
+        let position = fault.map_or(0, |fault| fault.position as u64);
+        counted([answer, position].map(u64::to_le_bytes).concat())
+    }
 }
 
 /// A success whose item is the number of bytes.
@@ -112,16 +144,16 @@ fn owner_sets(judged: &Judged) -> Success {
     Success { item: judged.owners.len() as u64, bytes }
 }
 
-fn owners(judged: &Judged) -> Result<Success, Refusal> {
-    Ok(counted(repair(&judged.table, &judged.owners)?))
+fn owners(judged: &Judged, way: u32) -> Result<Success, Refusal> {
+    Ok(counted(repaired(judged, way)?))
 }
 
-/// After 20 and 21 come 41 and 30.
-fn boundary(judged: &Judged, asked: u32) -> Result<Success, Refusal> {
+/// After 20 and 21 come 41, 54 and 30.
+fn boundary(judged: &Judged, way: u32, asked: u32) -> Result<Success, Refusal> {
     if asked == 0 || asked as usize > judged.sheet.polygons.len() {
         return Err(Refusal::new(41, 0));
     }
-    let repaired = repair(&judged.table, &judged.owners)?;
+    let repaired = repaired(judged, way)?;
     let sides = boundary_sides(&judged.table, &repaired, asked as u8);
     let numbers = sides.iter().flat_map(|(u, v)| [u.x, u.y, v.x, v.y]);
     let bytes = numbers.flat_map(|number| (number as i32).to_le_bytes()).collect();

@@ -13,13 +13,14 @@ mod spoil;
 
 use dice::Dice;
 use draft::Draft;
-use sheets::{not_carried_sheet, sound_sheet, without_ground_sheet};
+use sheets::{not_carried_sheet, older_sheet, sound_or_older_sheet, sound_sheet, without_ground_sheet};
 
 /// The input for this seed: bytes that are, or nearly are, a sheet in WKB.
 pub fn generate(seed: u64) -> Vec<u8> {
     let mut dice = Dice::new(seed);
     match dice.below(100) {
-        0..=51 => sound(&mut dice),
+        0..=39 => sound(&mut dice),
+        40..=51 => older(&mut dice),
         52..=61 => not_carried(&mut dice),
         62..=67 => without_ground(&mut dice),
         68..=76 => broken_table(&mut dice),
@@ -41,9 +42,11 @@ pub fn largest(seed: u64) -> Vec<u8> {
 
 /// One of the sheets at the end of a length that document 01 allows, of each kind in turn: the largest; that with the
 /// most numbers, 65,800 bytes of them, and written in the most bytes, 158,290; the longest one, 185,938 bytes; that with
-/// the longest listing, 3,328 bytes; and that with the most boundary sides, 1,845 of polygon 1.
+/// the longest listing, 3,328 bytes; that with the most boundary sides, 1,845 of polygon 1; and one of the older edition with
+/// the most numbers.
 pub fn extreme(place: u64) -> Vec<u8> {
-    let kinds = [large::largest, large::most_numbers, large::longest, large::longest_listing, large::most_sides];
+    let kinds =
+        [large::largest, large::most_numbers, large::longest, large::longest_listing, large::most_sides, large::older];
     kinds[place as usize % kinds.len()](&mut Dice::new(place))
 }
 
@@ -63,6 +66,12 @@ fn sound(dice: &mut Dice) -> Vec<u8> {
     Draft::of(dice, sheet).bytes(dice)
 }
 
+/// A sheet of the older edition, which in the older mode no entry refuses before 30.
+fn older(dice: &mut Dice) -> Vec<u8> {
+    let sheet = older_sheet(dice);
+    Draft::of(dice, sheet).bytes(dice)
+}
+
 /// A sheet of which, mostly, a member isn't carried.
 fn not_carried(dice: &mut Dice) -> Vec<u8> {
     let sheet = not_carried_sheet(dice);
@@ -77,7 +86,7 @@ fn without_ground(dice: &mut Dice) -> Vec<u8> {
 
 /// A sheet with a table that breaks a rule.
 fn broken_table(dice: &mut Dice) -> Vec<u8> {
-    let mut sheet = sound_sheet(dice);
+    let mut sheet = sound_or_older_sheet(dice);
     for _ in 0..1 + dice.below(2) {
         spoil::table(dice, &mut sheet.triangles);
     }
@@ -86,7 +95,7 @@ fn broken_table(dice: &mut Dice) -> Vec<u8> {
 
 /// A sheet's bytes with one or two damages.
 fn damaged(dice: &mut Dice) -> Vec<u8> {
-    let sheet = sound_sheet(dice);
+    let sheet = sound_or_older_sheet(dice);
     let mut encoded = Draft::of(dice, sheet).encode(dice);
     let twice = dice.chance(20);
     damage::apply(dice, &mut encoded);
@@ -98,7 +107,7 @@ fn damaged(dice: &mut Dice) -> Vec<u8> {
 
 /// A sheet at one of the counts' limits, or one past it; now and then damaged besides.
 fn at_a_limit(dice: &mut Dice) -> Vec<u8> {
-    let sheet = sound_sheet(dice);
+    let sheet = sound_or_older_sheet(dice);
     let mut draft = Draft::of(dice, sheet);
     limit::reach(dice, &mut draft);
     let mut encoded = draft.encode(dice);
@@ -122,6 +131,20 @@ mod tests {
             let (packed, _) = answer(Entry::OwnerSets, &input, usize::MAX);
             assert_eq!(packed % 256, 0, "seed {seed}: item {}", packed / 256);
         }
+    }
+
+    #[test]
+    fn sheets_of_the_older_edition_are_carried_after_turning() {
+        let (mut clean, mut refused) = (0, 0);
+        let single = |set: &[u8]| set.iter().map(|byte| byte.count_ones()).sum::<u32>() == 1;
+        for seed in 0..3_000 {
+            let input = older(&mut Dice::new(seed));
+            let [present, turned] = [0, 1].map(|mode| whole(Entry::OwnerSetsBy(mode), &input));
+            let sets = turned.unwrap_or_else(|refusal| panic!("seed {seed}: {refusal:?}")).bytes;
+            clean += usize::from(present.is_err() && sets.chunks(8).all(single));
+            refused += usize::from(present.is_err());
+        }
+        assert!(clean > 300 && refused > 1_500, "{clean} clean and {refused} refused in the present mode alone");
     }
 
     /// For each polygon of the sheet, in order, the code by which it is refused, 0 for none.
@@ -161,8 +184,13 @@ mod tests {
 
     #[test]
     fn extreme_sheets_are_as_long_as_they_say() {
-        let longest = |entry| (0..10).map(|place| whole(entry, &extreme(place)).unwrap().bytes.len()).max();
+        let lengths = |entry, places: &[u64]| -> Vec<usize> {
+            places.iter().map(|place| whole(entry, &extreme(*place)).unwrap().bytes.len()).collect()
+        };
+        let longest = |entry| lengths(entry, &[0, 1, 2, 3, 4, 6, 7, 8, 9, 10]).into_iter().max();
         let written = (0..10).map(|place| whole(Entry::Write, &whole(Entry::Numbers, &extreme(place)).unwrap().bytes));
+        assert_eq!(lengths(Entry::NumbersBy(1), &[5, 11]), [65_800, 65_800]);
+        assert_eq!(lengths(Entry::OwnerSetsBy(1), &[5, 11]), [8 * 1_024, 8 * 1_024]);
         assert_eq!(longest(Entry::Numbers), Some(65_800));
         assert_eq!(written.map(|success| success.unwrap().bytes.len()).max(), Some(158_290));
         assert_eq!((0..10).map(|place| extreme(place).len()).max(), Some(185_938));
@@ -178,12 +206,13 @@ mod tests {
         for seed in 0..6_000 {
             let input = generate(seed);
             without_ground += usize::from(answer(Entry::OwnerSets, &input, 0).0 % 256 == 21);
-            for entry in [Entry::Owners, Entry::Boundary(seed as u32 % 5)] {
+            let (mode, way) = (seed as u32 % 7, seed as u32 % 11 / 9 * 2);
+            for entry in [Entry::Owners, Entry::Boundary(seed as u32 % 5), Entry::OwnersBy(mode, way)] {
                 codes.insert(answer(entry, &input, 20).0 % 256);
             }
             codes.insert(answer(Entry::Write, &generate_numbers(seed), 1_000).0 % 256);
         }
-        let all = [0, 1, 2, 3, 4, 5, 6, 7, 8, 10, 11, 12, 20, 21, 30, 40, 41, 42];
+        let all = [0, 1, 2, 3, 4, 5, 6, 7, 8, 10, 11, 12, 20, 21, 30, 40, 41, 42, 54, 57];
         assert_eq!(codes.into_iter().collect::<Vec<u64>>(), all);
         assert!(without_ground > 240, "{without_ground} sheets refused by 21");
     }

@@ -19,6 +19,7 @@ pub mod reading;
 pub mod repair;
 pub mod stored;
 pub mod table;
+pub mod turning;
 pub mod writing;
 
 #[cfg(test)]

@@ -2,7 +2,8 @@
 
 use crate::ownership::{judge_sheet, member_double_area, Judged};
 use crate::plane::double_area;
-use crate::repair::repair;
+use crate::reading::Mode;
+use crate::repair::repaired;
 use crate::Refusal;
 
 /// The most bytes that `sheetcheck` reads; of a longer input, the first so many are read as the whole.
@@ -10,13 +11,13 @@ pub const LONGEST_INPUT: usize = 65_536;
 
 /// What is printed for this sheet. The input is taken whole: cutting it is the caller's.
 pub fn listing(bytes: &[u8]) -> String {
-    of(judge_sheet(bytes).as_ref().map_err(|refusal| *refusal))
+    of(judge_sheet(Mode::Present, bytes).as_ref().map_err(|refusal| *refusal), 0)
 }
 
-/// What is printed for a judged sheet, or for a refusal.
-pub fn of(judged: Result<&Judged, Refusal>) -> String {
+/// What is printed for a judged sheet and the way of this number, or for a refusal.
+pub fn of(judged: Result<&Judged, Refusal>, way: u32) -> String {
     match judged {
-        Ok(judged) => lines(judged),
+        Ok(judged) => lines(judged, way),
         Err(refusal) => refused(refusal),
     }
 }
@@ -25,7 +26,7 @@ fn refused(refusal: Refusal) -> String {
     format!("refused {} {}\n", refusal.code, refusal.item)
 }
 
-fn lines(judged: &Judged) -> String {
+fn lines(judged: &Judged, way: u32) -> String {
     let polygons = &judged.sheet.polygons;
     let mut text = format!("sheet {} {}\n", judged.owners.len(), polygons.len());
     for (place, member) in polygons.iter().enumerate() {
@@ -36,12 +37,12 @@ fn lines(judged: &Judged) -> String {
     text += &format!("gap {gaps} {gap_area}\noverlap {overlaps} {overlap_area}\n");
     let clean = gaps == 0 && overlaps == 0;
     text += if clean { "verdict clean\n" } else { "verdict repair\n" };
-    text + &after(judged)
+    text + &after(judged, way)
 }
 
 /// The `after` lines, or the one line that replaces them if repair is refused.
-fn after(judged: &Judged) -> String {
-    let repaired = match repair(&judged.table, &judged.owners) {
+fn after(judged: &Judged, way: u32) -> String {
+    let repaired = match repaired(judged, way) {
         Ok(repaired) => repaired,
         Err(refusal) => return refused(refusal),
     };

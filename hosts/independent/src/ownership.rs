@@ -9,8 +9,9 @@
 //! every ordered pair.
 
 use crate::plane::Boundary;
+use crate::reading::{read_in, Mode};
 use crate::table::Table;
-use crate::{reading, Member, Point, Refusal, Sheet, Side, Triangle};
+use crate::{Member, Point, Refusal, Sheet, Side, Triangle};
 
 /// A sheet that was read, whose table keeps its rules, and whose members are all carried and have ground.
 pub struct Judged {
@@ -22,10 +23,10 @@ pub struct Judged {
     pub owners: Vec<u64>,
 }
 
-/// Reads a sheet, checks its table, and judges its polygons in number order: refusals 1 to 8, 10, 11, 12, and 20 or 21 with
+/// Reads a sheet in this mode, checks its table, and judges its polygons in number order: refusals 1 to 8, 10, 11, 12, and 20 or 21 with
 /// the number of the first polygon that is refused.
-pub fn judge_sheet(bytes: &[u8]) -> Result<Judged, Refusal> {
-    let sheet = reading::read(bytes)?;
+pub fn judge_sheet(mode: Mode, bytes: &[u8]) -> Result<Judged, Refusal> {
+    let sheet = read_in(mode, bytes)?;
     let table = Table::check(&sheet.triangles)?;
     let inside = PointsInside::of(&table.triangles);
     let mut owners = vec![0; table.triangles.len()];

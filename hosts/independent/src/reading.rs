@@ -1,6 +1,7 @@
 //! From bytes to a sheet in numbers, with refusals 1 to 8, left to right and stopping at the first fault, whose position is
 //! told with it.
 
+use crate::turning::turned;
 use crate::{limits, Part, Point, Refusal, Ring, Sheet, Triangle};
 
 /// The type number of a Polygon.
@@ -13,6 +14,26 @@ pub const COLLECTION: u32 = 7;
 pub const TIN: u32 = 16;
 /// The type number of a Triangle.
 pub const TRIANGLE: u32 = 17;
+
+/// How a sheet is read.
+#[derive(Clone, Copy, PartialEq, Eq, Debug)]
+pub enum Mode {
+    /// As document 01 says.
+    Present,
+    /// As a sheet of the older edition: the rings of its polygons are turned once all is read.
+    Older,
+}
+
+impl Mode {
+    /// The mode of this number, or 57.
+    pub fn numbered(number: u32) -> Result<Mode, Refusal> {
+        match number {
+            0 => Ok(Mode::Present),
+            1 => Ok(Mode::Older),
+            _ => Err(Refusal::new(57, 0)),
+        }
+    }
+}
 
 /// Why a sheet can't be read, and where: the position of the field at fault, counted from 0 at the first byte. It is that of
 /// the field's first byte, which is the number of bytes where none of the field is there; of a point that isn't given in
@@ -29,6 +50,15 @@ pub struct Fault {
 /// Reads a whole sheet, or gives the first refusal.
 pub fn read(bytes: &[u8]) -> Result<Sheet, Refusal> {
     read_or_fault(bytes).map_err(|fault| fault.refusal)
+}
+
+/// Reads a whole sheet in this mode, or gives the first refusal, which is the same in every mode.
+pub fn read_in(mode: Mode, bytes: &[u8]) -> Result<Sheet, Refusal> {
+    let sheet = read(bytes)?;
+    Ok(match mode {
+        Mode::Present => sheet,
+        Mode::Older => turned(sheet),
+    })
 }
 
 /// Reads a whole sheet, or gives the first fault.

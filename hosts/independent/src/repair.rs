@@ -1,8 +1,20 @@
 //! Repair: each triangle's one number, and the boundary sides of a member after it.
 
+use crate::ownership::Judged;
 use crate::plane::sides;
 use crate::table::Table;
 use crate::{Refusal, Side};
+
+/// The numbers of the ways to fill gaps that are known: 0 is the priority list's.
+pub const WAYS: [u32; 1] = [0];
+
+/// Each triangle's number after repair in the way of this number; 54 if that isn't known, then 30.
+pub fn repaired(judged: &Judged, way: u32) -> Result<Vec<u8>, Refusal> {
+    if !WAYS.contains(&way) {
+        return Err(Refusal::new(54, 0));
+    }
+    repair(&judged.table, &judged.owners)
+}
 
 /// Each triangle's number after repair, in table order; 30 exactly if no triangle has an owner.
 pub fn repair(table: &Table, owners: &[u64]) -> Result<Vec<u8>, Refusal> {

@@ -15,6 +15,11 @@ extern "C" {
     fn sheet_boundary(sheet: *const u8, sheet_len: usize, polygon: u32, out: *mut u8, out_len: usize) -> u64;
     fn sheet_listing(sheet: *const u8, sheet_len: usize, out: *mut u8, out_len: usize) -> u64;
     fn sheet_position(sheet: *const u8, sheet_len: usize, mode: u32, out: *mut u8, out_len: usize) -> u64;
+    fn sheet_numbers_by(sheet: *const u8, sheet_len: usize, mode: u32, out: *mut u8, out_len: usize) -> u64;
+    fn sheet_owner_sets_by(sheet: *const u8, sheet_len: usize, mode: u32, out: *mut u8, out_len: usize) -> u64;
+    fn sheet_owners_by(sheet: *const u8, sheet_len: usize, mode: u32, way: u32, out: *mut u8, out_len: usize) -> u64;
+    fn sheet_boundary_by(sheet: *const u8, sheet_len: usize, mode: u32, way: u32, polygon: u32, out: *mut u8, out_len: usize) -> u64;
+    fn sheet_listing_by(sheet: *const u8, sheet_len: usize, mode: u32, way: u32, out: *mut u8, out_len: usize) -> u64;
 }
 
 /// Room that is always enough for the numbers form of a sheet.
@@ -36,6 +41,27 @@ pub const POSITION_ROOM: usize = 16;
 pub const STACK: usize = 524_288;
 /// So many bytes of a file are always enough to read the sheet in it: what the library answers on the first so many of longer ones is what it answers on all.
 pub const READ_CAP: usize = 196_608;
+
+/// How a sheet is read.
+#[derive(Clone, Copy, Debug, Default, PartialEq, Eq, Hash)]
+#[repr(u32)]
+pub enum Mode {
+    /// As it stands.
+    #[default]
+    Present = 0,
+    /// As one of the older edition, which has rings in either direction: the first ring of each part of a polygon is turned round if its double area is
+    /// negative, every later one if its own is positive.
+    Older = 1,
+}
+
+/// How gaps are filled.
+#[derive(Clone, Copy, Debug, Default, PartialEq, Eq, Hash)]
+#[repr(u32)]
+pub enum Way {
+    /// Each goes to the largest number beside it.
+    #[default]
+    Priority = 0,
+}
 
 /// Why a call was refused: a code, and the member, triangle or polygon that it is about, 0 for none.
 #[derive(Clone, Copy, Debug, PartialEq, Eq, Hash)]
@@ -128,65 +154,35 @@ pub mod lent {
     pub fn listing(sheet: &[u8], out: &mut [u8]) -> Result<u64, Refusal> {
         call(out, |p, n| unsafe { sheet_listing(sheet.as_ptr(), sheet.len(), p, n) })
     }
-    /// The packed answer of reading in this mode, of which 0 is the only one, and the position of the field at fault, 8 bytes each; the item is 16.
+    /// The packed answer of reading in the mode of this number and the position of the field at fault, 8 bytes each; the item is 16. For a number that is no
+    /// [`Mode`]'s the answer told is 57.
     pub fn position(sheet: &[u8], mode: u32, out: &mut [u8]) -> Result<u64, Refusal> {
         call(out, |p, n| unsafe { sheet_position(sheet.as_ptr(), sheet.len(), mode, p, n) })
     }
-}
-
-fn words(bytes: &[u8]) -> Vec<i32> {
-    bytes.chunks_exact(4).map(|b| i32::from_le_bytes(b.try_into().unwrap())).collect()
-}
-
-/// The sheet in numbers: the triangle count and six numbers each, the polygon count, then for each its parts, rings and points, every count before
-/// what it counts, rings closed.
-pub fn numbers(sheet: &[u8]) -> Result<Vec<i32>, Refusal> {
-    let mut out = vec![0; NUMBERS_ROOM];
-    let bytes = lent::numbers(sheet, &mut out)? as usize;
-    Ok(words(&out[..bytes]))
-}
-
-/// The bytes of the sheet that the numbers make up, in one normal form.
-pub fn write(numbers: &[i32]) -> Result<Vec<u8>, Refusal> {
-    let given: Vec<u8> = numbers.iter().flat_map(|n| n.to_le_bytes()).collect();
-    let mut out = vec![0; WRITE_ROOM];
-    let bytes = lent::write(&given, &mut out)? as usize;
-    out.truncate(bytes);
-    Ok(out)
-}
-
-/// The owners of each triangle before repair: bit k - 1 stands for polygon k.
-pub fn owner_sets(sheet: &[u8]) -> Result<Vec<u64>, Refusal> {
-    let mut out = vec![0; OWNER_SETS_ROOM];
-    let triangles = lent::owner_sets(sheet, &mut out)? as usize;
-    Ok(out[..8 * triangles].chunks_exact(8).map(|b| u64::from_le_bytes(b.try_into().unwrap())).collect())
-}
-
-/// The number of each triangle after repair.
-pub fn owners(sheet: &[u8]) -> Result<Vec<u8>, Refusal> {
-    let mut out = vec![0; OWNERS_ROOM];
-    let triangles = lent::owners(sheet, &mut out)? as usize;
-    out.truncate(triangles);
-    Ok(out)
+    /// [`numbers`] in the mode of this number; 57 for one that is no [`Mode`]'s.
+    pub fn numbers_by(sheet: &[u8], mode: u32, out: &mut [u8]) -> Result<u64, Refusal> {
+        call(out, |p, n| unsafe { sheet_numbers_by(sheet.as_ptr(), sheet.len(), mode, p, n) })
+    }
+    /// [`owner_sets`] in the mode of this number.
+    pub fn owner_sets_by(sheet: &[u8], mode: u32, out: &mut [u8]) -> Result<u64, Refusal> {
+        call(out, |p, n| unsafe { sheet_owner_sets_by(sheet.as_ptr(), sheet.len(), mode, p, n) })
+    }
+    /// [`owners`] in the mode and the way of these numbers; 54 for one that is no [`Way`]'s.
+    pub fn owners_by(sheet: &[u8], mode: u32, way: u32, out: &mut [u8]) -> Result<u64, Refusal> {
+        call(out, |p, n| unsafe { sheet_owners_by(sheet.as_ptr(), sheet.len(), mode, way, p, n) })
+    }
+    /// [`boundary`] in the mode and the way of these numbers.
+    pub fn boundary_by(sheet: &[u8], mode: u32, way: u32, polygon: u32, out: &mut [u8]) -> Result<u64, Refusal> {
+        call(out, |p, n| unsafe { sheet_boundary_by(sheet.as_ptr(), sheet.len(), mode, way, polygon, p, n) })
+    }
+    /// [`listing`] in the mode and the way of these numbers.
+    pub fn listing_by(sheet: &[u8], mode: u32, way: u32, out: &mut [u8]) -> Result<u64, Refusal> {
+        call(out, |p, n| unsafe { sheet_listing_by(sheet.as_ptr(), sheet.len(), mode, way, p, n) })
+    }
 }
 
 /// A point, x and y in millimetres.
 pub type Point = (i32, i32);
-
-/// The boundary sides of a polygon after repair, each from one point to the other.
-pub fn boundary(sheet: &[u8], polygon: u32) -> Result<Vec<(Point, Point)>, Refusal> {
-    let mut out = vec![0; BOUNDARY_ROOM];
-    let sides = lent::boundary(sheet, polygon, &mut out)? as usize;
-    Ok(words(&out[..16 * sides]).chunks_exact(4).map(|s| ((s[0], s[1]), (s[2], s[3]))).collect())
-}
-
-/// The printed listing; a refused sheet has one, too.
-pub fn listing(sheet: &[u8]) -> String {
-    let mut out = vec![0; LISTING_ROOM];
-    let bytes = lent::listing(sheet, &mut out).expect("the room is enough for every listing") as usize;
-    out.truncate(bytes);
-    String::from_utf8(out).expect("a listing is ASCII")
-}
 
 /// What reading comes to, and where it stops.
 #[derive(Clone, Copy, Debug, PartialEq, Eq)]
@@ -195,14 +191,6 @@ pub struct Position {
     pub answer: Result<u64, Refusal>,
     /// For a refusal the position of the field at fault, counted in bytes from 0; 0 where the sheet is read.
     pub byte: u64,
-}
-
-/// Where in its bytes a sheet can't be read.
-pub fn position(sheet: &[u8]) -> Position {
-    let mut out = [0; POSITION_ROOM];
-    lent::position(sheet, 0, &mut out).expect("the room is enough for every position");
-    let number = |at: usize| u64::from_le_bytes(out[at..at + 8].try_into().unwrap());
-    Position { answer: unpacked(number(0)), byte: number(8) }
 }
 
 /// What a sheet is found to be.
@@ -216,11 +204,136 @@ pub enum Verdict {
     Refused(Refusal),
 }
 
+/// What an entry answers in ordinary types, with room that is always enough.
+mod typed {
+    use super::*;
+
+    type Item = Result<u64, Refusal>;
+
+    fn words(bytes: &[u8]) -> Vec<i32> {
+        bytes.chunks_exact(4).map(|b| i32::from_le_bytes(b.try_into().unwrap())).collect()
+    }
+
+    pub fn numbers(entry: impl FnOnce(&mut [u8]) -> Item) -> Result<Vec<i32>, Refusal> {
+        let mut out = vec![0; NUMBERS_ROOM];
+        let bytes = entry(&mut out)? as usize;
+        Ok(words(&out[..bytes]))
+    }
+
+    pub fn owner_sets(entry: impl FnOnce(&mut [u8]) -> Item) -> Result<Vec<u64>, Refusal> {
+        let mut out = vec![0; OWNER_SETS_ROOM];
+        let triangles = entry(&mut out)? as usize;
+        Ok(out[..8 * triangles].chunks_exact(8).map(|b| u64::from_le_bytes(b.try_into().unwrap())).collect())
+    }
+
+    pub fn owners(entry: impl FnOnce(&mut [u8]) -> Item) -> Result<Vec<u8>, Refusal> {
+        let mut out = vec![0; OWNERS_ROOM];
+        let triangles = entry(&mut out)? as usize;
+        out.truncate(triangles);
+        Ok(out)
+    }
+
+    pub fn boundary(entry: impl FnOnce(&mut [u8]) -> Item) -> Result<Vec<(Point, Point)>, Refusal> {
+        let mut out = vec![0; BOUNDARY_ROOM];
+        let sides = entry(&mut out)? as usize;
+        Ok(words(&out[..16 * sides]).chunks_exact(4).map(|s| ((s[0], s[1]), (s[2], s[3]))).collect())
+    }
+
+    pub fn listing(entry: impl FnOnce(&mut [u8]) -> Item) -> String {
+        let mut out = vec![0; LISTING_ROOM];
+        let bytes = entry(&mut out).expect("the room is enough for every listing") as usize;
+        out.truncate(bytes);
+        String::from_utf8(out).expect("a listing is ASCII")
+    }
+
+    pub fn verdict(sets: Result<Vec<u64>, Refusal>) -> Verdict {
+        match sets {
+            Err(refusal) => Verdict::Refused(refusal),
+            Ok(sets) if sets.iter().all(|set| set.count_ones() == 1) => Verdict::Clean,
+            Ok(_) => Verdict::Repair,
+        }
+    }
+}
+
+/// The sheet in numbers: the triangle count and six numbers each, the polygon count, then for each its parts, rings and points, every count before
+/// what it counts, rings closed.
+pub fn numbers(sheet: &[u8]) -> Result<Vec<i32>, Refusal> {
+    typed::numbers(|out| lent::numbers(sheet, out))
+}
+
+/// The bytes of the sheet that the numbers make up, in one normal form.
+pub fn write(numbers: &[i32]) -> Result<Vec<u8>, Refusal> {
+    let given: Vec<u8> = numbers.iter().flat_map(|n| n.to_le_bytes()).collect();
+    let mut out = vec![0; WRITE_ROOM];
+    let bytes = lent::write(&given, &mut out)? as usize;
+    out.truncate(bytes);
+    Ok(out)
+}
+
+/// The owners of each triangle before repair: bit k - 1 stands for polygon k.
+pub fn owner_sets(sheet: &[u8]) -> Result<Vec<u64>, Refusal> {
+    typed::owner_sets(|out| lent::owner_sets(sheet, out))
+}
+
+/// The number of each triangle after repair.
+pub fn owners(sheet: &[u8]) -> Result<Vec<u8>, Refusal> {
+    typed::owners(|out| lent::owners(sheet, out))
+}
+
+/// The boundary sides of a polygon after repair, each from one point to the other.
+pub fn boundary(sheet: &[u8], polygon: u32) -> Result<Vec<(Point, Point)>, Refusal> {
+    typed::boundary(|out| lent::boundary(sheet, polygon, out))
+}
+
+/// The printed listing; a refused sheet has one, too.
+pub fn listing(sheet: &[u8]) -> String {
+    typed::listing(|out| lent::listing(sheet, out))
+}
+
+/// Where in its bytes a sheet can't be read.
+pub fn position(sheet: &[u8]) -> Position {
+    position_by(sheet, Mode::Present)
+}
+
 /// The verdict on a sheet.
 pub fn verdict(sheet: &[u8]) -> Verdict {
-    match owner_sets(sheet) {
-        Err(refusal) => Verdict::Refused(refusal),
-        Ok(sets) if sets.iter().all(|set| set.count_ones() == 1) => Verdict::Clean,
-        Ok(_) => Verdict::Repair,
-    }
+    typed::verdict(owner_sets(sheet))
+}
+
+/// [`numbers`] in a mode.
+pub fn numbers_by(sheet: &[u8], mode: Mode) -> Result<Vec<i32>, Refusal> {
+    typed::numbers(|out| lent::numbers_by(sheet, mode as u32, out))
+}
+
+/// [`owner_sets`] in a mode.
+pub fn owner_sets_by(sheet: &[u8], mode: Mode) -> Result<Vec<u64>, Refusal> {
+    typed::owner_sets(|out| lent::owner_sets_by(sheet, mode as u32, out))
+}
+
+/// [`owners`] in a mode and a way.
+pub fn owners_by(sheet: &[u8], mode: Mode, way: Way) -> Result<Vec<u8>, Refusal> {
+    typed::owners(|out| lent::owners_by(sheet, mode as u32, way as u32, out))
+}
+
+/// [`boundary`] in a mode and a way.
+pub fn boundary_by(sheet: &[u8], mode: Mode, way: Way, polygon: u32) -> Result<Vec<(Point, Point)>, Refusal> {
+    typed::boundary(|out| lent::boundary_by(sheet, mode as u32, way as u32, polygon, out))
+}
+
+/// [`listing`] in a mode and a way.
+pub fn listing_by(sheet: &[u8], mode: Mode, way: Way) -> String {
+    typed::listing(|out| lent::listing_by(sheet, mode as u32, way as u32, out))
+}
+
+/// [`position`] in a mode.
+pub fn position_by(sheet: &[u8], mode: Mode) -> Position {
+    let mut out = [0; POSITION_ROOM];
+    lent::position(sheet, mode as u32, &mut out).expect("the room is enough for every position");
+    let number = |at: usize| u64::from_le_bytes(out[at..at + 8].try_into().unwrap());
+    Position { answer: unpacked(number(0)), byte: number(8) }
+}
+
+/// [`verdict`] in a mode.
+pub fn verdict_by(sheet: &[u8], mode: Mode) -> Verdict {
+    typed::verdict(owner_sets_by(sheet, mode))
 }

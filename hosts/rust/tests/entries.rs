@@ -1,5 +1,7 @@
 //! The safe functions on the example sheets, whose listings are stored beside them.
-use sheets::{boundary, lent, listing, numbers, owner_sets, owners, position, verdict, write, Position, Refusal, Verdict};
+use sheets::{boundary, lent, listing, numbers, owner_sets, owners, position, verdict, write};
+use sheets::{boundary_by, listing_by, numbers_by, owner_sets_by, owners_by, position_by, verdict_by};
+use sheets::{Mode, Position, Refusal, Verdict, Way};
 
 fn example(name: &str) -> Vec<u8> {
     std::fs::read(format!("{}/../../examples/{name}", env!("CARGO_MANIFEST_DIR"))).unwrap()
@@ -49,7 +51,7 @@ fn each_refusal_says_what_it_is_about() {
         numbers(&sheet[..600]).unwrap_err().to_string(),
         "the bytes end too early for the next field of member 1, the triangle table (code 1, item 1)"
     );
-    let codes = [1, 2, 3, 4, 5, 6, 7, 8, 10, 11, 12, 20, 21, 30, 40, 41, 42, 57];
+    let codes = [1, 2, 3, 4, 5, 6, 7, 8, 10, 11, 12, 20, 21, 30, 40, 41, 42, 54, 57];
     let sentences: std::collections::BTreeSet<String> = codes.iter().map(|&code| Refusal { code, item: 7 }.sentence()).collect();
     assert_eq!(sentences.len(), codes.len());
     assert!(sentences.iter().all(|sentence| !sentence.contains("has no refusal")));
@@ -77,9 +79,64 @@ fn a_position_is_told_in_16_bytes_by_mode() {
     assert_eq!(lent, [9; 17]);
     assert_eq!(lent::position(sheet, 0, &mut lent), Ok(16));
     assert_eq!(lent, [1, 3, 0, 0, 0, 0, 0, 0, 36, 3, 0, 0, 0, 0, 0, 0, 9]);
-    for mode in [1, 7, 256, u32::MAX] {
+    let first = lent;
+    assert_eq!((lent::position(sheet, 1, &mut lent), lent), (Ok(16), first));
+    for mode in [7, 256, u32::MAX] {
         assert_eq!(lent::position(sheet, mode, &mut lent), Ok(16));
         assert_eq!(lent, [57, 0, 0, 0, 0, 0, 0, 0, 0, 0, 0, 0, 0, 0, 0, 0, 9]);
+    }
+}
+
+/// The sheet with the points of all its rings in reverse order: as its numbers, and as its bytes.
+fn clockwise(sheet: &[u8]) -> (Vec<i32>, Vec<u8>) {
+    let mut numbers = numbers(sheet).unwrap();
+    let first = 2 + 6 * numbers[0] as usize;
+    assert_eq!(numbers[first - 1..first + 3], [2, 1, 1, 5]);
+    for ring in [first + 3, first + 16] {
+        let points: Vec<i32> = numbers[ring..ring + 10].chunks(2).rev().flatten().copied().collect();
+        numbers[ring..ring + 10].copy_from_slice(&points);
+    }
+    let bytes = write(&numbers).unwrap();
+    (numbers, bytes)
+}
+
+#[test]
+fn a_sheet_of_the_older_edition_is_read_with_its_rings_turned() {
+    let sheet = example("clean.wkb");
+    let (turned, older) = clockwise(&sheet);
+    assert_eq!(verdict(&older), Verdict::Refused(Refusal { code: 20, item: 1 }));
+    assert_eq!((numbers(&older), numbers_by(&older, Mode::Present)), (Ok(turned.clone()), Ok(turned)));
+    for older in [&older, &sheet] {
+        assert_eq!(numbers_by(older, Mode::Older), numbers(&sheet));
+        assert_eq!(owner_sets_by(older, Mode::Older), owner_sets(&sheet));
+        assert_eq!(owners_by(older, Mode::Older, Way::Priority), owners(&sheet));
+        assert_eq!(boundary_by(older, Mode::Older, Way::Priority, 2), boundary(&sheet, 2));
+        assert_eq!(listing_by(older, Mode::Older, Way::Priority), listing(&sheet));
+        assert_eq!(verdict_by(older, Mode::Older), Verdict::Clean);
+        assert_eq!(position_by(older, Mode::Older), position(&sheet));
+        assert_eq!(position_by(&older[..819], Mode::Older).byte, 804);
+    }
+}
+
+#[test]
+fn modes_and_ways_that_are_not_known_are_refused() {
+    let sheet = example("clean.wkb");
+    let mut lent = [9; 200];
+    let refused = |code: u8| Err(Refusal { code, item: 0 });
+    for number in [7, 256, u32::MAX] {
+        assert_eq!(lent::numbers_by(&[], number, &mut lent), refused(57));
+        assert_eq!(lent::owner_sets_by(&sheet, number, &mut lent), refused(57));
+        assert_eq!(lent::owners_by(&sheet, number, number, &mut lent), refused(57));
+        assert_eq!(lent::owners_by(&sheet, 1, number, &mut lent[..7]), refused(54));
+        assert_eq!(lent::boundary_by(&sheet, 0, number, 1, &mut lent), refused(54));
+        assert_eq!(lent::boundary_by(&sheet, 0, number, 3, &mut lent), refused(41));
+        assert_eq!(lent::owners_by(&example("no-polygons.wkb"), 0, number, &mut lent), refused(54));
+        assert_eq!(lent, [9; 200]);
+        let bytes = lent::listing_by(&sheet, 0, number, &mut lent).unwrap() as usize;
+        assert!(lent[..bytes].ends_with(b"verdict clean\nrefused 54 0\n"));
+        assert_eq!(lent::listing_by(&sheet, number, 0, &mut lent), Ok(13));
+        assert_eq!(lent[..13], b"refused 57 0\n"[..]);
+        lent = [9; 200];
     }
 }
 

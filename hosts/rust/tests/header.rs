@@ -18,6 +18,9 @@ fn the_header_defines_the_same() {
         ("BOUNDARY_ROOM", sheets::BOUNDARY_ROOM),
         ("LISTING_ROOM", sheets::LISTING_ROOM),
         ("POSITION_ROOM", sheets::POSITION_ROOM),
+        ("MODE_PRESENT", sheets::Mode::Present as usize),
+        ("MODE_OLDER", sheets::Mode::Older as usize),
+        ("WAY_PRIORITY", sheets::Way::Priority as usize),
         ("STACK", sheets::STACK),
         ("READ_CAP", sheets::READ_CAP),
     ];

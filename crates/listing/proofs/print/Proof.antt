@@ -27,27 +27,31 @@ call c = c .before .before .before .before .before
 abbrev bytes : tie.After-judged → List ℕ
 bytes c = now (start c .args .sheet)
 
+-- What they come to in the mode.
+abbrev comes : tie.After-judged → Answer Judged
+comes c = judgedSheet (start c .args .mode) (bytes c)
+
 abbrev many : tie.After-n → ℕ
 many c = c .n .given .0 .0
 
 -- The listing of what the bytes come to is put.
-known : (c : tie.After-judged) {o : Answer Judged} {r : ℕ} {after : List ℕ} → judgedSheet (bytes c) ≡ o
-    → Put 0 (listing o) (now (start c .args .text)) r after → Put 0 (listing (judgedSheet (bytes c))) (now (start c .args .text)) r after
-known c {r = r} {after = after} e = subst (λ o. Put 0 (listing o) (now (start c .args .text)) r after) (sym e)
+known : (c : tie.After-judged) {o : Answer Judged} {r : ℕ} {after : List ℕ} → comes c ≡ o
+    → Put 0 (listing (start c .args .way) o) (now (start c .args .text)) r after → Put 0 (listing (start c .args .way) (comes c)) (now (start c .args .text)) r after
+known c {r = r} {after = after} e = subst (λ o. Put 0 (listing (start c .args .way) o) (now (start c .args .text)) r after) (sym e)
 
 -- What stands in the three lists once there are owner sets, and that its fronts are there.
-standing : (c : tie.After-n) → let l = call c .judged .last .1 in
-    (j : Judged) × (judgedSheet (bytes (call c)) ≡ value j) × (length (j .sheet .table) ≡ many c) × JudgedHeld j (l .0) (take (3 * many c) (l .1 .0)) (take (many c) (l .1 .1 .0))
-standing c = let k = call c .judged in stands (bytes (call c)) (k .result) _ _ _ (k .ensures) (many c) (c .n .given .1)
+standing : (c : tie.After-n) → let l = call c .judged .last .1 .1 in
+    (j : Judged) × (comes (call c) ≡ value j) × (length (j .sheet .table) ≡ many c) × JudgedHeld j (l .0) (take (3 * many c) (l .1 .0)) (take (many c) (l .1 .1 .0))
+standing c = let k = call c .judged in stands (start (call c) .args .mode) (bytes (call c)) (k .result) _ _ _ (k .ensures) (many c) (c .n .given .1)
 
 few : (c : tie.After-n) → many c ≤ 1024
 few c = let s = standing c in omega (arith, s .2, s .3 .held .few)
 
-opposite-room : (c : tie.After-n) → 3 * many c ≤ length (call c .judged .last .1 .1 .0)
-opposite-room c = omega (arith, few c, call c .judged .kept .1 .1 .0)
+opposite-room : (c : tie.After-n) → 3 * many c ≤ length (call c .judged .last .1 .1 .1 .0)
+opposite-room c = omega (arith, few c, call c .judged .kept .1 .1 .1 .0)
 
-sets-room : (c : tie.After-n) → many c ≤ length (call c .judged .last .1 .1 .1 .0)
-sets-room c = omega (arith, few c, call c .judged .kept .1 .1 .1 .0)
+sets-room : (c : tie.After-n) → many c ≤ length (call c .judged .last .1 .1 .1 .1 .0)
+sets-room c = omega (arith, few c, call c .judged .kept .1 .1 .1 .1 .0)
 
 put-judged-requires : tie.Need-put-judged-requires
 put-judged-requires c κs =
@@ -61,7 +65,7 @@ returns c =
     let k = c .before .before .before .before .before .before in
     let j = k .before .before .before .before .before in
     let g = k .code .given in
-    (omega (arith, p .0), known j (refused-is (bytes j) (j .judged .result) _ _ _ (j .judged .ensures) (g .0 .0) (g .0 .1 .0) (g .1)) (p .1))
+    (omega (arith, p .0), known j (refused-is (start j .args .mode) (bytes j) (j .judged .result) _ _ _ (j .judged .ensures) (g .0 .0) (g .0 .1 .0) (g .1)) (p .1))
 
 returns-2 : tie.Need-returns-2
 returns-2 c =

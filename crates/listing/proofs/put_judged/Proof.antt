@@ -49,10 +49,10 @@ areas-room : (c : tie.After-lay-areas) (rest : List ℕ) → many (start c) ≤ 
 areas-room c rest = omega (arith, length-append (areas c) rest, areas-many c)
 
 abbrev owners : tie.After-repair → List ℕ
-owners c = c .repair .last .1 .1 .0
+owners c = c .repair .last .1 .1 .1 .0
 
 owners-many : (c : tie.After-repair) → length (owners c) ≡ many (start (laid c))
-owners-many c = c .repair .kept .1 .1 .0 ∙ length-take-le _ _ (few (start (laid c) .pre .0 .1))
+owners-many c = c .repair .kept .1 .1 .1 .0 ∙ length-take-le _ _ (few (start (laid c) .pre .0 .1))
 
 owners-room : (c : tie.After-repair) (rest : List ℕ) → many (start (laid c)) ≤ length (owners c ++ rest)
 owners-room c rest = omega (arith, length-append (owners c) rest, owners-many c)
@@ -62,11 +62,11 @@ figures-are : (c : tie.After-repair) (x y : List ℕ) → x ≡ owners c → y �
 figures-are c x y e f = let p = start (laid c) .pre .0 in rw (e, f) (figures (p .1) (owners c) (areas-are (laid c) (p .0) (p .1)) (owners-many c))
 
 lines-are : (c : tie.After-repair) (j : Judged) → Stands (start (laid c)) j → (x y : List ℕ) → x ≡ owners c → y ≡ areas (laid c)
-    → let a = start (laid c) .args in linesBy (c .repair .result) (getD (now (a .numbers)) (1 + 6 * many (start (laid c))) 0 - 10_000_000) (now (a .sets)) x y ≡ listingOf j
+    → let a = start (laid c) .args in linesBy (c .repair .result) (getD (now (a .numbers)) (1 + 6 * many (start (laid c))) 0 - 10_000_000) (now (a .sets)) x y ≡ listingOf (a .way) j
 lines-are c j w x y e f =
     let s = start (laid c) in
     let m : getD (now (s .args .numbers)) (1 + 6 * many s) 0 - 10_000_000 ≡ length (j .sheet .polygons) = omega (arith, polygons-at w .1) in
-    rw (e, f, m) (listing-is w (owners c) (areas-are (laid c) j w) (owners-many c) (c .repair .result) (c .repair .ensures))
+    rw (e, f, m) (listing-is w (owners c) (areas-are (laid c) j w) (owners-many c) _ (c .repair .result) (c .repair .ensures))
 
 lay-areas-requires : tie.Need-lay-areas-requires
 lay-areas-requires c κs = let w = entry (c .before) .pre .0 in (w .0, _, _, w .1, sym (length-take-le _ _ (few (w .1))))

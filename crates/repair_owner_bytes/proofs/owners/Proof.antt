@@ -12,7 +12,6 @@ use Rattle.lent.specs.Answered.{Outcome, Answered}
 use Rattle.lent.proofs.Answered.{answered-refusal, answered-short, answered-bytes}
 use Rattle.lent_text.proofs.Texts.{put-over}
 use Rattle.owners_marks.specs.Sets.{ownersOf}
-use Rattle.repair.specs.Repair.{largest}
 use Rattle.repair_answers.specs.Answers.{numbersAfter}
 use Rattle.repair_answers.specs.Held.{ownersOutcome}
 use Rattle.repair_answers.proofs.After.{not-repaired, goes-on, as-many, room, front}
@@ -27,11 +26,11 @@ abbrev call : tie.After-enum-told → tie.After-repair
 call c = c .before .before .before
 
 abbrev owners : tie.After-enum-told → List ℕ
-owners c = call c .repair .last .1 .1 .0
+owners c = call c .repair .last .1 .1 .1 .0
 
 -- What is answered.
 abbrev comes : tie.Start → Outcome
-comes s = ownersOutcome (largest (now (s .args .opposite))) (now (s .args .opposite)) (map ownersOf (now (s .args .sets)))
+comes s = ownersOutcome (s .args .way) (now (s .args .opposite)) (map ownersOf (now (s .args .sets)))
 
 many : (c : tie.After-enum-told) → length (owners c) ≡ length (now (start (call c) .args .sets))
 many c = as-many (call c .repair .ensures) (c .enum-told .given .1) ∙ length-map (now (start (call c) .args .sets)) ownersOf

@@ -11,7 +11,6 @@ use lib.Seq.{length-take-le, take-append-le}
 use Rattle.whole.specs.Sums.{All}
 use Rattle.owners_marks.specs.Sets.{ownersOf}
 use Rattle.repair_regions.specs.Spreading.{Paired}
-use Rattle.repair.specs.Repair.{largest}
 use Rattle.repair_sides.specs.Numbered.{boundaryNumbers}
 use Rattle.repair_sides.proofs.Laying.{front-laid}
 use Rattle.lent.specs.Answered.{Outcome, Answered}
@@ -31,11 +30,11 @@ abbrev call : tie.After-enum-told → tie.After-repair
 call c = c .before .before .before
 
 abbrev owners : tie.After-enum-told → List ℕ
-owners c = call c .repair .last .1 .1 .0
+owners c = call c .repair .last .1 .1 .1 .0
 
 -- What is answered.
 abbrev comes : tie.Start → Outcome
-comes s = let a = s .args in sidesOutcome (now (a .numbers)) (largest (now (a .opposite))) (now (a .opposite)) (map ownersOf (now (a .sets))) (a .polygon)
+comes s = let a = s .args in sidesOutcome (now (a .numbers)) (a .way) (now (a .opposite)) (map ownersOf (now (a .sets))) (a .polygon)
 
 -- The sides that are answered for the owner numbers.
 abbrev sides-for : tie.Start → List ℕ → Outcome

@@ -28,19 +28,22 @@ call c = c .before .before .before .before .before
 abbrev sheet : tie.After-judged → List ℕ
 sheet c = now (start c .args .sheet)
 
+abbrev mode : tie.After-judged → ℕ
+mode c = start c .args .asked .mode
+
 -- The judged sheet that stands at the fronts of the three lists, and that it has at most 1,024 triangles.
-standing : (c : tie.After-n) → let l = call c .judged .last .1 in let t = c .n .given .0 .0 in
-    (j : Judged) × (judgedSheet (sheet (call c)) ≡ value j) × (length (j .sheet .table) ≡ t) × JudgedHeld j (l .0) (take (3 * t) (l .1 .0)) (take t (l .1 .1 .0))
-standing c = let j = call c .judged in stands (sheet (call c)) (j .result) (j .last .1 .0) (j .last .1 .1 .0) (j .last .1 .1 .1 .0) (j .ensures) (c .n .given .0 .0) (c .n .given .1)
+standing : (c : tie.After-n) → let l = call c .judged .last .1 .1 in let t = c .n .given .0 .0 in
+    (j : Judged) × (judgedSheet (mode (call c)) (sheet (call c)) ≡ value j) × (length (j .sheet .table) ≡ t) × JudgedHeld j (l .0) (take (3 * t) (l .1 .0)) (take t (l .1 .1 .0))
+standing c = let j = call c .judged in stands (mode (call c)) (sheet (call c)) (j .result) (j .last .1 .1 .0) (j .last .1 .1 .1 .0) (j .last .1 .1 .1 .1 .0) (j .ensures) (c .n .given .0 .0) (c .n .given .1)
 
 few : (c : tie.After-n) → c .n .given .0 .0 ≤ 1024
 few c = let (j, e, t, w) = standing c in omega (arith, w .held .few)
 
-sides-fit : (c : tie.After-n) → 3 * c .n .given .0 .0 ≤ length (call c .judged .last .1 .1 .0)
-sides-fit c = omega (arith, few c, call c .judged .kept .1 .1 .0)
+sides-fit : (c : tie.After-n) → 3 * c .n .given .0 .0 ≤ length (call c .judged .last .1 .1 .1 .0)
+sides-fit c = omega (arith, few c, call c .judged .kept .1 .1 .1 .0)
 
-sets-fit : (c : tie.After-n) → c .n .given .0 .0 ≤ length (call c .judged .last .1 .1 .1 .0)
-sets-fit c = omega (arith, few c, call c .judged .kept .1 .1 .1 .0)
+sets-fit : (c : tie.After-n) → c .n .given .0 .0 ≤ length (call c .judged .last .1 .1 .1 .1 .0)
+sets-fit c = omega (arith, few c, call c .judged .kept .1 .1 .1 .1 .0)
 
 go-on-requires : tie.Need-go-on-requires
 go-on-requires c κs = let (j, e, t, w) = standing (c .before .before .before .before .before) in (j, w)
@@ -50,10 +53,10 @@ returns c =
     let k = c .before in
     let j = k .before .before .before .before .before in
     let a = start j .args in
-    let l = j .judged .last .1 in
+    let l = j .judged .last .1 .1 in
     let g = k .code .given in
     answered-refusal _ (now (a .out)) (g .0 .0) (g .0 .1 .0)
-    (ap (λ r. andThen r (goesOn (a .asked .wanted))) (refused-is (sheet j) (j .judged .result) (l .0) (l .1 .0) (l .1 .1 .0) (j .judged .ensures) (g .0 .0) (g .0 .1 .0) (g .1)))
+    (ap (λ r. andThen r (goesOn (a .asked .way) (a .asked .wanted))) (refused-is (mode j) (sheet j) (j .judged .result) (l .0) (l .1 .0) (l .1 .1 .0) (j .judged .ensures) (g .0 .0) (g .0 .1 .0) (g .1)))
 
 returns-2 : tie.Need-returns-2
 returns-2 c =
@@ -61,7 +64,7 @@ returns-2 c =
     let n = c .before .before .before .before .before .before .before .before in
     let a = start (call n) .args in
     let (j, e, t, w) = standing n in
-    subst (λ o. Answered o (now (a .out)) (g .result) (g .last .1 .1 .1 .1 .0)) (sym (ap (λ r. andThen r (goesOn (a .asked .wanted))) e)) (g .ensures j w)
+    subst (λ o. Answered o (now (a .out)) (g .result) (g .last .1 .1 .1 .1 .1 .0)) (sym (ap (λ r. andThen r (goesOn (a .asked .way) (a .asked .wanted))) e)) (g .ensures j w)
 
 pub answer-spec : {M : Type 1} → statement M
 answer-spec =

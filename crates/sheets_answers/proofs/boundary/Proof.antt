@@ -20,10 +20,10 @@ told : (o : tie.Start) → let a = o .args in JudgedHeld (o .pre .0) (now (a .nu
 told o = o .pre .1
 
 returns : tie.Need-returns
-returns c = λ j w. let a = c .before .before .before .before .before .args in answered-refusal _ (now (a .out)) 41 0 (none-asked w (a .polygon) (c .if1 .taken))
+returns c = λ j w. let a = c .before .before .before .before .before .args in answered-refusal _ (now (a .out)) 41 0 (none-asked w (a .way) (a .polygon) (c .if1 .taken))
 
 returns-2 : tie.Need-returns-2
-returns-2 c = λ j w. let a = start (c .before .before) .args in answered-refusal _ (now (a .out)) 41 0 (past-asked w (a .polygon) (omega (arith, polygons-at w .1, c .if2 .taken)))
+returns-2 c = λ j w. let a = start (c .before .before) .args in answered-refusal _ (now (a .out)) 41 0 (past-asked w (a .way) (a .polygon) (omega (arith, polygons-at w .1, c .if2 .taken)))
 
 -- One of at most 64 is a byte.
 cast-boundary : tie.Need-cast-boundary
@@ -37,8 +37,8 @@ returns-3 c = λ j w.
     let b = c .before .before .boundary in
     let e = c .before .before .before .before in
     let a = start (e .before .before) .args in
-    subst (λ o. Answered o (now (a .out)) (b .result) (b .last .1 .1 .1 .1 .0))
-    (boundary-on w (a .polygon) (omega (arith, e .before .before .if1 .left)) (omega (arith, polygons-at w .1, e .if2 .left))) (b .ensures)
+    subst (λ o. Answered o (now (a .out)) (b .result) (b .last .1 .1 .1 .1 .1 .0))
+    (boundary-on w (a .way) (a .polygon) (omega (arith, e .before .before .if1 .left)) (omega (arith, polygons-at w .1, e .if2 .left))) (b .ensures)
 
 pub boundary-spec : {M : Type 1} → statement M
 boundary-spec =

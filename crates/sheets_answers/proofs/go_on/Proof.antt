@@ -21,21 +21,21 @@ returns c = λ j w.
     let r = c .before .before .owner-sets in
     let e = c .before .before .before .before in
     let a = e .before .before .before .before .before .before .args in
-    subst (λ o. Answered o (now (a .out)) (r .result) (r .last .1 .0)) (owner-sets-on w ∙ sym (ap (λ x. goesOn x j) (e .enum-told .given .1))) (r .ensures)
+    subst (λ o. Answered o (now (a .out)) (r .result) (r .last .1 .0)) (owner-sets-on w (a .way) ∙ sym (ap (λ x. goesOn (a .way) x j) (e .enum-told .given .1))) (r .ensures)
 
 returns-2 : tie.Need-returns-2
 returns-2 c = λ j w.
     let r = c .before .before .owners in
     let e = c .before .before .before .before in
     let a = e .before .before .before .before .before .before .args in
-    subst (λ o. Answered o (now (a .out)) (r .result) (r .last .1 .1 .0)) (owners-on w ∙ sym (ap (λ x. goesOn x j) (e .enum-told2 .given .1))) (r .ensures)
+    subst (λ o. Answered o (now (a .out)) (r .result) (r .last .1 .1 .1 .0)) (owners-on w (a .way) ∙ sym (ap (λ x. goesOn (a .way) x j) (e .enum-told2 .given .1))) (r .ensures)
 
 returns-3 : tie.Need-returns-3
 returns-3 c = λ j w.
     let r = c .before .before .boundary in
     let e = c .before .before .before .before .before in
     let a = e .before .before .before .before .before .before .args in
-    subst (λ o. Answered o (now (a .out)) (r .result) (r .last .1 .1 .1 .1 .0)) (sym (ap (λ x. goesOn x j) (e .wanted .given .1))) (r .ensures j w)
+    subst (λ o. Answered o (now (a .out)) (r .result) (r .last .1 .1 .1 .1 .1 .0)) (sym (ap (λ x. goesOn (a .way) x j) (e .wanted .given .1))) (r .ensures j w)
 
 pub go-on-spec : {M : Type 1} → statement M
 go-on-spec =

@@ -12,7 +12,7 @@ use Rattle.lent.specs.Answered.{Answered}
 use Rattle.lent.proofs.Answered.{answered-short, answered-bytes}
 use Rattle.judged.specs.Judged.{judgedSheet}
 use Rattle.listing.specs.Listing.{listing}
-use Rattle.outcomes.specs.Entries.{sheetListing}
+use Rattle.outcomes.specs.Entries.{sheetListingBy}
 use Rattle.outcomes.proofs.Judged.{listing-on}
 use Rattle.sheets_answers.proofs.listing.Statement.{statement}
 use Rattle.sheets_answers.proofs.listing.Tie as tie
@@ -22,20 +22,20 @@ abbrev start : tie.After-print → tie.Start
 start c = c .before .before .before .before
 
 abbrev text : tie.After-print → List ℕ
-text c = listing (judgedSheet (now (start c .args .sheet)))
+text c = let a = start c .args in listing (a .way) (judgedSheet (a .mode) (now (a .sheet)))
 
 many : (c : tie.After-print) → length (text c) ≡ c .print .result
 many c = omega (arith, c .print .ensures .1 .place)
 
 -- It stands at the front of the work list.
-fits : (c : tie.After-print) → c .print .result ≤ length (c .print .last .1 .0)
-fits c = omega (arith, c .print .ensures .0, c .print .kept .1 .0)
+fits : (c : tie.After-print) → c .print .result ≤ length (c .print .last .1 .1 .1 .0)
+fits c = omega (arith, c .print .ensures .0, c .print .kept .1 .1 .1 .0)
 
 returns : tie.Need-returns
-returns c = let p = c .before .before in answered-short _ _ (length (text p)) (text p) (listing-on (now (start p .args .sheet))) (omega (arith, many p))
+returns c = let p = c .before .before in answered-short _ _ (length (text p)) (text p) (listing-on _ _ (now (start p .args .sheet))) (omega (arith, many p))
 
 put-word-requires : tie.Need-put-word-requires
-put-word-requires c κs = let p = c .before .before .before .before in omega (arith, length-take-le (p .print .result) (p .print .last .1 .0) (fits p))
+put-word-requires c κs = let p = c .before .before .before .before in omega (arith, length-take-le (p .print .result) (p .print .last .1 .1 .1 .0) (fits p))
 
 returns-2 : tie.Need-returns-2
 returns-2 c =
@@ -43,8 +43,8 @@ returns-2 c =
     let e = c .before .before .before .before .before in
     let p = e .before .before in
     let a = start p .args in
-    subst (λ m. Answered (sheetListing (now (a .sheet))) (now (a .out)) (m * 256) (w .last .0)) (many p)
-    (answered-bytes _ _ (length (text p)) (text p) (listing-on (now (a .sheet))) _ (omega (arith, many p, e .if1 .left))
+    subst (λ m. Answered (sheetListingBy (a .mode) (a .way) (now (a .sheet))) (now (a .out)) (m * 256) (w .last .0)) (many p)
+    (answered-bytes _ _ (length (text p)) (text p) (listing-on _ _ (now (a .sheet))) _ (omega (arith, many p, e .if1 .left))
     (put-over (w .ensures) ∙ ap (λ l. l ++ drop (length l) (now (a .out))) (put-front (p .print .ensures .1))))
 
 pub listing-spec : {M : Type 1} → statement M

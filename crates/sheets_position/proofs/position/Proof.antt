@@ -1,13 +1,11 @@
 -- `sheets_position::position` meets its contract: what is told is the reading's refusal with its position, or four bytes for each number of the sheet.
 -- Assumes nothing.
-use mathlib.Core.Path.{_≡_, sym, _∙_, subst}
+use mathlib.Core.Path.{_≡_, refl, sym, _∙_, subst}
 use mathlib.Core.List.{List}
-use Prim.Native.Nat.{ℕ, _*_, _≤_, _<_}
+use Prim.Native.Nat.{ℕ, zero, suc, _≤_, _<_}
 use native.Mathlib.Omega.{arith}
 use borrow.Author.Needs.{needs}
-use borrow.Author.Tests.{ne-eqb, eq-eqb}
 use denote.Ref.{now}
-use lib.Dec.{eqb}
 use lib.ListN.{length}
 use Rattle.whole.specs.Sums.{All}
 use Rattle.whole.proofs.Sums.{all-from}
@@ -17,18 +15,18 @@ use Rattle.sheet.specs.Reading.{readingOf}
 use Rattle.sheet.specs.Going.{readOf}
 use Rattle.sheet.specs.declared.Ending.the-variants.{Sheet, Refused}
 use Rattle.sheet.proofs.Fit.{numbers-fit}
-use Rattle.judged.proofs.Read.{sheet-is}
-use Rattle.outcomes.specs.Entries.{telling, sheetPosition}
-use Rattle.outcomes.proofs.Position.{position-unread, position-read}
+use Rattle.lent.specs.Stages.{value}
+use Rattle.sheet_modes.specs.Modes.{Edition, present, older, editionOf}
+use Rattle.sheet_modes.proofs.Endings.{sheet-is}
+use Rattle.outcomes.proofs.Position.{position-unknown, position-unread, position-read}
 use Rattle.sheets_position.proofs.position.Statement.{statement}
 use Rattle.sheets_position.proofs.position.Tie as tie
 
--- In an unknown mode, and in mode 0.
-unknown : (mode : ℕ) (s : List ℕ) → (mode ≡ 0 → ⊥) → telling 57 0 ≡ sheetPosition mode s
-unknown mode s h = rw (ne-eqb mode 0 h)
-
-present : (mode : ℕ) (s : List ℕ) → mode ≡ 0 → sheetPosition 0 s ≡ sheetPosition mode s
-present mode s e = rw e
+-- A mode that is not unknown has an edition.
+known : (mode : ℕ) → mode ≤ 1 → (edition : Edition) × (editionOf mode ≡ value edition)
+known zero h = (present, refl)
+known (suc zero) h = (older, refl)
+known (suc (suc mode)) h = absurd (omega arith)
 
 -- ---- what stands after the reading
 module _ (d : tie.After-read) where
@@ -38,8 +36,8 @@ module _ (d : tie.After-read) where
   abbrev M : ℕ
   M = d .before .before .before .before .before .args .mode
 
-  in-mode : sheetPosition 0 S ≡ sheetPosition M S
-  in-mode = present M S (d .before .before .if1 .left)
+  in-mode : (edition : Edition) × (editionOf M ≡ value edition)
+  in-mode = known M (let h = d .before .before .if1 .left in omega arith)
 
   bytes : All (λ b. b < 256) S
   bytes = all-from (λ x. x < 256) 0 S (λ i l. d .before .before .before .before .shared-slice-known .given i .fits)
@@ -51,17 +49,19 @@ told : (o p : Outcome) (before : List ℕ) (r : ℕ) (after : List ℕ) → o �
 told o p before r after e = subst (λ (q : Outcome). Answered q before r after) e
 
 returns : tie.Need-returns
-returns c = told _ _ _ _ _ (unknown _ _ (c .before .before .before .before .if1 .taken)) (c .before .before .tell .ensures)
+returns c = told _ _ _ _ _ (sym (position-unknown _ _ (c .before .before .before .before .if1 .taken))) (c .before .before .tell .ensures)
 
 returns-2 : tie.Need-returns-2
 returns-2 c =
     let d = c .before .before .before .before .before .before .before .before in
-    told _ _ _ _ _ (sym (position-unread (S d) _ _ _ (sym (d .read .ensures .0) ∙ c .before .before .before .before .before .code .given .1)) ∙ in-mode d) (c .before .before .tell2 .ensures)
+    let (edition, k) = in-mode d in
+    told _ _ _ _ _ (sym (position-unread (M d) edition k (S d) _ _ _ (sym (d .read .ensures .0) ∙ c .before .before .before .before .before .code .given .1))) (c .before .before .tell2 .ensures)
 
 returns-3 : tie.Need-returns-3
 returns-3 c =
     let d = c .before .before .before .before .before .before .before .before in
-    told _ _ _ _ _ (sym (position-read (S d) (bytes d) _ (sym (d .read .ensures .0) ∙ c .before .before .before .before .before .n .given .1)) ∙ in-mode d) (c .before .before .tell3 .ensures)
+    let (edition, k) = in-mode d in
+    told _ _ _ _ _ (sym (position-read (M d) edition k (S d) (bytes d) _ (sym (d .read .ensures .0) ∙ c .before .before .before .before .before .n .given .1))) (c .before .before .tell3 .ensures)
 
 pub position-spec : {M : Type 1} → statement M
 position-spec =

@@ -1,62 +1,122 @@
-//! Calls the crate's safe functions as the frames of standard input say, for a program that has the library on the other
-//! side of a pipe. `independent::bridge` has the frames; every one asks for the functions' own room.
+//! Calls the crate's safe functions, or those on lent bytes, as the frames of standard input say, for a program that has the
+//! library on the other side of a pipe. `independent::bridge` has the frames.
 
-use sheets::{boundary, listing, numbers, owner_sets, owners, position, verdict, write, Refusal, Verdict};
+use beside::call;
+use independent::bridge::{before_call, Function};
+use sheets::{boundary, listing, numbers, owner_sets, owners, position, verdict, write};
+use sheets::{boundary_by, listing_by, numbers_by, owner_sets_by, owners_by, position_by, verdict_by};
+use sheets::{Mode, Point, Position, Refusal, Verdict, Way};
 use std::io::{BufRead, BufReader, Read, Write};
 
 /// The item and the value in bytes, or the refusal.
 type Answer = Result<(u64, Vec<u8>), Refusal>;
 
 /// The bytes of a frame before its input.
-const HEAD: usize = 13;
+const HEAD: usize = 21;
 
 fn main() {
     let mut frames = BufReader::with_capacity(1 << 16, std::io::stdin().lock());
     let mut answers = Vec::new();
     while !frames.fill_buf().expect("frames can be read").is_empty() {
-        let (item, value) = match answer(&mut frames) {
-            Ok((item, value)) => (Ok(item), value),
-            Err(refusal) => (Err(refusal), Vec::new()),
-        };
-        answers.extend(packed(item).to_le_bytes());
-        answers.extend((value.len() as u32).to_le_bytes());
-        answers.extend(value);
+        answers.extend(answer(&mut frames));
         if frames.buffer().is_empty() {
-            std::io::stdout().write_all(&answers).expect("answers can be written");
+            let mut out = std::io::stdout().lock();
+            out.write_all(&answers).and_then(|()| out.flush()).expect("answers can be written");
             answers.clear();
         }
     }
 }
 
-/// Takes a frame and answers it.
-fn answer(frames: &mut impl Read) -> Answer {
+/// Takes a frame, and answers it in bytes.
+fn answer(frames: &mut impl Read) -> Vec<u8> {
     let mut head = [0; HEAD];
     frames.read_exact(&mut head).expect("a whole frame");
     let number = |at: usize| u32::from_le_bytes(head[at..at + 4].try_into().unwrap());
-    assert_eq!(number(9), u32::MAX, "the room is the crate's own");
-    let mut input = vec![0; number(5) as usize];
+    let asked = [1, 5, 9].map(number);
+    let mut input = vec![0; number(13) as usize];
     frames.read_exact(&mut input).expect("a whole frame");
-    match head[0] {
-        0 => numbers(&input).map(|numbers| counted(bytes(&numbers))),
-        1 => write(&whole_numbers(&input)).map(counted),
-        2 => owner_sets(&input).map(|sets| (sets.len() as u64, sets.iter().flat_map(|set| set.to_le_bytes()).collect())),
-        3 => owners(&input).map(counted),
-        4 => boundary(&input, number(1)).map(|sides| {
-            let numbers: Vec<i32> = sides.iter().flat_map(|&((ux, uy), (vx, vy))| [ux, uy, vx, vy]).collect();
-            (sides.len() as u64, bytes(&numbers))
-        }),
-        5 => Ok(counted(listing(&input).into_bytes())),
-        6 => match verdict(&input) {
-            Verdict::Clean => Ok((0, vec![0])),
-            Verdict::Repair => Ok((0, vec![1])),
-            Verdict::Refused(refusal) => Err(refusal),
-        },
-        7 => {
-            let position = position(&input);
-            Ok(counted([packed(position.answer), position.byte].map(u64::to_le_bytes).concat()))
-        }
+    match number(17) {
+        u32::MAX => own(typed(head[0], asked, &input)),
+        room => lent(head[0], asked, &input, room as usize),
+    }
+}
+
+/// The answer of a function on lent bytes, with these bytes after the call.
+fn lent(function: u8, asked: [u32; 3], input: &[u8], room: usize) -> Vec<u8> {
+    let entry = Function::entry(function.into(), asked).expect("an entry");
+    let mut lent: Vec<u8> = (0..room).map(before_call).collect();
+    let packed = packed(call(entry, input, &mut lent));
+    [&packed.to_le_bytes()[..], &lent].concat()
+}
+
+/// The answer of a function that has its own room.
+fn own(answer: Answer) -> Vec<u8> {
+    let (item, value) = match answer {
+        Ok((item, value)) => (Ok(item), value),
+        Err(refusal) => (Err(refusal), Vec::new()),
+    };
+    [&packed(item).to_le_bytes()[..], &(value.len() as u32).to_le_bytes(), &value].concat()
+}
+
+/// What a function with ordinary types answers.
+fn typed(function: u8, [mode_number, way_number, polygon]: [u32; 3], input: &[u8]) -> Answer {
+    let (mode, way) = (mode(mode_number), way(way_number));
+    match function {
+        0 => numbers(input).map(|numbers| counted(bytes(&numbers))),
+        1 => write(&whole_numbers(input)).map(counted),
+        2 => owner_sets(input).map(of_sets),
+        3 => owners(input).map(counted),
+        4 => boundary(input, polygon).map(of_sides),
+        5 => Ok(counted(listing(input).into_bytes())),
+        6 if mode == Mode::Present => of_verdict(verdict(input)),
+        6 => of_verdict(verdict_by(input, mode)),
+        7 if mode == Mode::Present => Ok(of_position(position(input))),
+        7 => Ok(of_position(position_by(input, mode))),
+        8 => numbers_by(input, mode).map(|numbers| counted(bytes(&numbers))),
+        9 => owner_sets_by(input, mode).map(of_sets),
+        10 => owners_by(input, mode, way).map(counted),
+        11 => boundary_by(input, mode, way, polygon).map(of_sides),
+        12 => Ok(counted(listing_by(input, mode, way).into_bytes())),
         function => panic!("there is no function {function}"),
     }
+}
+
+/// The mode of this number.
+fn mode(number: u32) -> Mode {
+    match number {
+        0 => Mode::Present,
+        1 => Mode::Older,
+        _ => panic!("the crate has no mode {number}"),
+    }
+}
+
+/// The way of this number.
+fn way(number: u32) -> Way {
+    match number {
+        0 => Way::Priority,
+        _ => panic!("the crate has no way {number}"),
+    }
+}
+
+fn of_sets(sets: Vec<u64>) -> (u64, Vec<u8>) {
+    (sets.len() as u64, sets.iter().flat_map(|set| set.to_le_bytes()).collect())
+}
+
+fn of_sides(sides: Vec<(Point, Point)>) -> (u64, Vec<u8>) {
+    let numbers: Vec<i32> = sides.iter().flat_map(|&((ux, uy), (vx, vy))| [ux, uy, vx, vy]).collect();
+    (sides.len() as u64, bytes(&numbers))
+}
+
+fn of_verdict(verdict: Verdict) -> Answer {
+    match verdict {
+        Verdict::Clean => Ok((0, vec![0])),
+        Verdict::Repair => Ok((0, vec![1])),
+        Verdict::Refused(refusal) => Err(refusal),
+    }
+}
+
+fn of_position(position: Position) -> (u64, Vec<u8>) {
+    counted([packed(position.answer), position.byte].map(u64::to_le_bytes).concat())
 }
 
 /// The packed answer of an item or a refusal.

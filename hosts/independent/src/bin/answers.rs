@@ -1,5 +1,5 @@
-//! `answers FILE..`: prints for each file its verdict, `clean`, `repair` or `refused` code item, with the position behind it where
-//! reading refuses, then the listing of the whole file, then an empty line.
+//! `answers MODE FILE..`: prints for each file its verdict in the mode of this number, `clean`, `repair` or `refused` code item,
+//! with the position behind it where reading refuses, then the listing of the whole file, then an empty line.
 
 use independent::bridge::Function;
 use independent::entries::{Entry, Input};
@@ -10,15 +10,17 @@ use std::path::Path;
 
 fn main() {
     let mut out = std::io::BufWriter::new(std::io::stdout().lock());
-    for path in std::env::args_os().skip(1) {
+    let mut words = std::env::args_os().skip(1);
+    let mode = words.next().and_then(|word| word.to_str()?.parse().ok()).expect("usage: answers MODE FILE..");
+    for path in words {
         let bytes = std::fs::read(&path).unwrap_or_else(|error| panic!("{}: {error}", Path::new(&path).display()));
         let input = Input::new(&bytes);
-        let verdict = match Function::Verdict.whole(&input) {
+        let verdict = match Function::Verdict(mode).whole(&input) {
             Ok(success) if success.bytes == [0] => String::from("clean"),
             Ok(_) => String::from("repair"),
             Err(refusal) => refused(&bytes, refusal),
         };
-        let listing = input.whole(Entry::Listing).expect("a listing is refused for want of room only").bytes;
+        let listing = input.whole(Entry::ListingBy(mode, 0)).expect("a listing is refused for want of room only").bytes;
         writeln!(out, "{verdict}")
             .and_then(|()| out.write_all(&listing))
             .and_then(|()| writeln!(out))

@@ -1,7 +1,7 @@
 //! `vectors FILE [BRIDGE]`: compares every `call` and `listing` line of a vectors file with the independent answers, or
 //! with those of the library behind a bridge. An entry is named short (`sets`, and the polygon asked for as a number) or as
-//! it is exported (`sheet_owner_sets`, and what is asked as NAME=NUMBER,.. of `polygon` and `mode`, or `-`). Prints each
-//! difference and last `N passed, M failed`; the exit status is 1 if any failed.
+//! it is exported (`sheet_owner_sets`, and what is asked as NAME=NUMBER,.. of `mode`, `way` and `polygon`, or `-`). Prints
+//! each difference and last `N passed, M failed`; the exit status is 1 if any failed.
 
 use independent::bridge::{start, Call, Function, Room};
 use independent::entries::{fit, Entry, Input, Success};
@@ -82,15 +82,21 @@ fn number(asked: &str, name: &str) -> u32 {
 }
 
 fn entry(name: &str, asked: &str) -> Entry {
+    let [mode, way, polygon] = ["mode", "way", "polygon"].map(|name| move || number(asked, name));
     match name {
         "numbers" | "sheet_numbers" => Entry::Numbers,
         "write" | "sheet_write" => Entry::Write,
         "sets" | "sheet_owner_sets" => Entry::OwnerSets,
         "owners" | "sheet_owners" => Entry::Owners,
         "boundary" => Entry::Boundary(asked.parse().expect("a polygon's number")),
-        "sheet_boundary" => Entry::Boundary(number(asked, "polygon")),
+        "sheet_boundary" => Entry::Boundary(polygon()),
         "sheet_listing" => Entry::Listing,
-        "sheet_position" => Entry::Position(number(asked, "mode")),
+        "sheet_position" => Entry::Position(mode()),
+        "sheet_numbers_by" => Entry::NumbersBy(mode()),
+        "sheet_owner_sets_by" => Entry::OwnerSetsBy(mode()),
+        "sheet_owners_by" => Entry::OwnersBy(mode(), way()),
+        "sheet_boundary_by" => Entry::BoundaryBy(mode(), way(), polygon()),
+        "sheet_listing_by" => Entry::ListingBy(mode(), way()),
         _ => panic!("unknown entry {name}"),
     }
 }

@@ -26,6 +26,8 @@ pub enum Outcome {
     Refused(u8, u64),
     /// It can't be read as a sheet, by this code and item, and the position of the field at fault is this one.
     Unread(u8, u64, u64),
+    /// The first in the present mode, the second in the older one.
+    InModes(Box<Outcome>, Box<Outcome>),
     /// These numbers make up a sheet.
     Written,
     /// These numbers are refused: 42.
@@ -67,6 +69,11 @@ impl Cases {
     /// A sheet that is refused.
     pub fn refused(&mut self, name: impl Into<String>, sheet: impl Into<Vec<u8>>, (code, item): (u8, u64)) {
         self.add(name, sheet, Outcome::Refused(code, item));
+    }
+
+    /// A sheet of which this is said in the present mode, and that in the older one.
+    pub fn in_modes(&mut self, name: impl Into<String>, sheet: Geometry, this: Outcome, that: Outcome) {
+        self.add(name, sheet, Outcome::InModes(Box::new(this), Box::new(that)));
     }
 
     /// A sheet that can't be read, with the position of the field at fault.

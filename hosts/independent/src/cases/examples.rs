@@ -71,7 +71,9 @@ pub(super) fn cases(cases: &mut Cases) {
     let ring = [(0, 0), (4, 0), (4, 4), (0, 4)];
     let by = |points: &[At]| on_strip(vec![one(closed(points))]);
     cases.sets("example 1 - the rectangle (0,0)(4,0)(4,4)(0,4)", by(&ring), &[1, 1, 1, 1, 0, 0, 0, 0]);
-    cases.refused("example 2 - the same clockwise", on_strip(vec![one(turned(closed(&ring)))]), (20, 1));
+    let clockwise = on_strip(vec![one(turned(closed(&ring)))]);
+    let carried = Outcome::Sets(vec![1, 1, 1, 1, 0, 0, 0, 0]);
+    cases.in_modes("example 2 - the same clockwise", clockwise, Outcome::Refused(20, 1), carried);
     cases.sets("example 3 - one triangle", by(&[(0, 0), (2, 0), (2, 4)]), &[1, 0, 0, 0, 0, 0, 0, 0]);
     cases.refused("example 4 - a long edge is no chain of sides", by(&[(0, 0), (4, 0), (4, 4)]), (20, 1));
     let off = [(0, 0), (1, 0), (2, 0), (2, 4), (0, 4)];
@@ -112,7 +114,7 @@ fn shown_outcomes() -> [Outcome; 9] {
 mod tests {
     use super::*;
     use crate::cases::named;
-    use crate::entries::{answer, Entry};
+    use crate::entries::{answer, whole, Entry};
     use crate::listing::listing;
 
     #[test]
@@ -136,6 +138,8 @@ mod tests {
         for (name, area) in areas {
             assert!(listing(&named(name)).contains(&format!("\npolygon 1 {area}\n")), "{name}");
         }
+        let older = whole(Entry::ListingBy(1, 0), &named("example 2 - the same clockwise")).unwrap().bytes;
+        assert!(String::from_utf8(older).unwrap().contains("\npolygon 1 32\n"));
     }
 
     #[test]

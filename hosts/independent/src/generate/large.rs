@@ -55,6 +55,14 @@ pub fn longest(dice: &mut Dice) -> Vec<u8> {
     Draft { pieces, members: members.collect() }.bytes(dice)
 }
 
+/// The sheet with the most numbers, of the older edition: every ring is clockwise.
+pub fn older(dice: &mut Dice) -> Vec<u8> {
+    let (triangles, mut polygons) = sixteen_rings_each(dice);
+    polygons.iter_mut().flatten().for_each(|ring| ring.reverse());
+    let polygons = polygons.into_iter().map(a_part_each).collect();
+    Draft::of(dice, Sheet { triangles, polygons }).bytes(dice)
+}
+
 /// A sheet with the longest listing, 3,328 bytes. Its 64 polygons overlap on a ground of their own at the left, and each
 /// but the first has a strip besides, with a gap to the left of it, which it is given. So every polygon's area and those
 /// of gaps and overlaps have 15 digits, as has that of the whole frame, and their numbers of triangles have three. After

@@ -5,6 +5,7 @@ use super::mesh;
 use crate::limits::{COORDINATE, SHEET_POINTS};
 use crate::plane::double_area;
 use crate::table::{corners, sorted_sides};
+use crate::turning::double_area as ring_double_area;
 use crate::{Member, Point, Ring, Side, Triangle};
 
 /// Members for this table, all carried and with ground: gaps and overlaps of every kind, or a clean sheet.
@@ -322,6 +323,23 @@ fn group(dice: &mut Dice, rings: Vec<Ring>) -> Member {
             member.push(Vec::new());
         }
         member.last_mut().unwrap().push(ring);
+    }
+    member
+}
+
+/// Groups rings into polygons whose first ring has no negative double area, and the later ones no positive one: a polygon for
+/// each ring with a positive one, the others in any of these, and those with none now and then alone or first.
+pub fn in_parts(dice: &mut Dice, rings: Vec<Ring>) -> Member {
+    let (outer, others): (Vec<Ring>, Vec<Ring>) = rings.into_iter().partition(|ring| ring_double_area(ring) > 0);
+    let mut member: Member = outer.into_iter().map(|ring| vec![ring]).collect();
+    for ring in others {
+        let flat = ring_double_area(&ring) == 0;
+        if flat && dice.chance(30) {
+            member.insert(dice.below(member.len() + 1), vec![ring]);
+        } else {
+            let part = dice.below(member.len());
+            member[part].push(ring);
+        }
     }
     member
 }

@@ -1,9 +1,10 @@
 //! The calls that the program entries_try makes, as its frames, and the lines that it is to print.
 //!
-//! A frame is a byte for the entry (0 numbers, 1 write, 2 owner sets, 3 owners, 4 boundary, 5 listing, 6 position), u32 length
-//! of the input, u32 number of lent bytes, and the input, little-endian; before a sheet that the boundary entry takes stands the
-//! polygon's number, a u32, and before one that the position entry takes the mode, a u32. A line has the packed answer, a blank,
-//! and a checksum of all lent bytes after the call, each 170 before it.
+//! A frame is a byte for the entry (0 numbers, 1 write, 2 owner sets, 3 owners, 4 boundary, 5 listing, 6 position; 7 numbers, 8
+//! owner sets, 9 owners, 10 boundary, 11 listing by a mode and a way), u32 length of the input, u32 number of lent bytes, and the
+//! input, little-endian; before a sheet that the boundary entry takes stands the polygon's number, a u32, before one that the
+//! position entry takes the mode, a u32, and before one that those from 7 on take mode, way and polygon, three u32. A line has
+//! the packed answer, a blank, and a checksum of all lent bytes after the call, each 170 before it.
 //!
 //! The calls are few, chosen for what they try; `differ` makes those of all cases, on libsheets.a.
 
@@ -24,9 +25,14 @@ struct Call {
     room: usize,
 }
 
+/// Cases that the entries in a mode are called with: the strip sheet, and sheets of the older edition.
+const IN_MODES: [&str; 4] =
+    ["strip", "clean, both polygons clockwise", "two parts clockwise, in collections", "a later ring of double area 0"];
+
 /// The calls: of each entry document 01's examples and the sheets of the folder examples/, the strip sheet with every room; and
 /// short cases of each code. The boundary entry is asked for polygon 1, and on the strip sheet for all others; the position entry
-/// in mode 0, and on the strip sheet in modes that aren't known.
+/// in mode 0, and on the strip sheet in others. The entries in a mode are called in the older one with the sheets above and the
+/// shortest case of each code, and on the strip sheet in the present one and in modes and ways that aren't known.
 fn calls() -> Vec<Call> {
     let mut calls = Vec::new();
     let judging = [Entry::OwnerSets, Entry::Owners, Entry::Boundary(1), Entry::Listing];
@@ -35,11 +41,43 @@ fn calls() -> Vec<Call> {
             calls.extend(with_rooms(entry, case));
         }
     }
+    for entry in by((1, 0, 1)) {
+        for case in chosen_in_modes(entry) {
+            calls.extend(with_rooms(entry, case));
+        }
+    }
     let strip = cases::named("strip");
     let asked = [0, 2, 3, 65, 257, 1 << 31, u32::MAX].map(Entry::Boundary);
     let modes = [1, 7, 256, u32::MAX].map(Entry::Position);
-    calls.extend(asked.into_iter().chain(modes).map(|entry| Call { entry, input: strip.clone(), room: 200 }));
+    let by = [(0, 0, 1), (7, 0, 1), (u32::MAX, 2, 1), (0, 2, 1), (1, u32::MAX, 3)].into_iter().flat_map(by);
+    let on_strip = asked.into_iter().chain(modes).chain(by);
+    calls.extend(on_strip.map(|entry| Call { entry, input: strip.clone(), room: 200 }));
     calls
+}
+
+/// The entries in this mode and this way, asked for this polygon.
+fn by((mode, way, polygon): (u32, u32, u32)) -> [Entry; 5] {
+    let repaired = Entry::BoundaryBy(mode, way, polygon);
+    [
+        Entry::NumbersBy(mode),
+        Entry::OwnerSetsBy(mode),
+        Entry::OwnersBy(mode, way),
+        repaired,
+        Entry::ListingBy(mode, way),
+    ]
+}
+
+/// The cases of an entry in a mode: those named above, and of each code the shortest.
+fn chosen_in_modes(entry: Entry) -> Vec<Case> {
+    let mut shortest: BTreeMap<u8, Case> = BTreeMap::new();
+    for case in cases::all().into_iter().filter(|case| case.is_sheet() && case.input.len() <= LONGEST) {
+        let place = shortest.entry(code(entry, &case.input)).or_insert_with(|| case.clone());
+        if case.input.len() < place.input.len() {
+            *place = case;
+        }
+    }
+    let named = cases::all().into_iter().filter(|case| IN_MODES.contains(&&case.name[..]));
+    named.chain(shortest.into_values()).collect()
 }
 
 /// The cases of an entry: the examples, of the position entry's the strip sheet, and short ones of each code.
@@ -83,16 +121,21 @@ fn with_rooms(entry: Entry, Case { name, input, .. }: Case) -> Vec<Call> {
 
 impl Call {
     fn frame(&self) -> Vec<u8> {
-        let (number, asked): (u8, Option<u32>) = match self.entry {
-            Entry::Numbers => (0, None),
-            Entry::Write => (1, None),
-            Entry::OwnerSets => (2, None),
-            Entry::Owners => (3, None),
-            Entry::Boundary(asked) => (4, Some(asked)),
-            Entry::Listing => (5, None),
-            Entry::Position(mode) => (6, Some(mode)),
+        let (number, asked): (u8, Vec<u32>) = match self.entry {
+            Entry::Numbers => (0, vec![]),
+            Entry::Write => (1, vec![]),
+            Entry::OwnerSets => (2, vec![]),
+            Entry::Owners => (3, vec![]),
+            Entry::Boundary(polygon) => (4, vec![polygon]),
+            Entry::Listing => (5, vec![]),
+            Entry::Position(mode) => (6, vec![mode]),
+            Entry::NumbersBy(mode) => (7, vec![mode, 0, 0]),
+            Entry::OwnerSetsBy(mode) => (8, vec![mode, 0, 0]),
+            Entry::OwnersBy(mode, way) => (9, vec![mode, way, 0]),
+            Entry::BoundaryBy(mode, way, polygon) => (10, vec![mode, way, polygon]),
+            Entry::ListingBy(mode, way) => (11, vec![mode, way, 0]),
         };
-        let asked = asked.map_or(Vec::new(), |asked| asked.to_le_bytes().to_vec());
+        let asked: Vec<u8> = asked.iter().flat_map(|number| number.to_le_bytes()).collect();
         let length = (asked.len() + self.input.len()) as u32;
         let head = [&[number][..], &length.to_le_bytes(), &(self.room as u32).to_le_bytes()].concat();
         [head, asked, self.input.clone()].concat()
@@ -144,7 +187,11 @@ mod tests {
         let judging = [&reading[..], &[10, 11, 12, 20, 21]].concat();
         let owners = [&judging[..], &[30]].concat();
         let boundary = [&judging[..], &[41]].concat();
-        let wanted = [&reading[..], &[0, 40, 42], &judging, &owners, &boundary, &[0, 40], &[0, 40]];
+        let without = [&reading[..], &[0, 40, 42], &judging, &owners, &boundary, &[0, 40], &[0, 40]];
+        let by = |codes: &[u8], more: &[u8]| [codes, more].concat();
+        let repaired = [by(&owners, &[54, 57]), by(&boundary, &[54, 57]), vec![0, 40]];
+        let in_modes = [&[by(&reading, &[57]), by(&judging, &[57])][..], &repaired].concat();
+        let wanted: Vec<Vec<u8>> = without.iter().map(|codes| codes.to_vec()).chain(in_modes).collect();
         let stored: BTreeSet<(u8, u8)> = tried().into_iter().map(|(entry, code, _)| (entry, code)).collect();
         let numbered = wanted.iter().enumerate();
         let wanted = numbered.flat_map(|(entry, codes)| codes.iter().map(move |code| (entry as u8, *code)));
@@ -153,7 +200,7 @@ mod tests {
 
     #[test]
     fn every_room_of_every_entry_is_stored() {
-        for entry in 0..7 {
+        for entry in 0..12 {
             let calls: Vec<_> = tried().into_iter().filter(|tried| tried.0 == entry).collect();
             assert!(calls.contains(&(entry, 0, Some(0))), "exact room for {entry}");
             assert!(calls.contains(&(entry, 0, Some(9))), "lent bytes past the answer for {entry}");
@@ -164,13 +211,13 @@ mod tests {
         let of = |less: fn(usize) -> usize| -> BTreeSet<u8> {
             calls().iter().filter(|call| short(call, less)).map(|call| call.frame()[0]).collect()
         };
-        assert_eq!((of(|length| length - 1), of(|_| 0)), ((0..7).collect(), (0..7).collect()));
+        assert_eq!((of(|length| length - 1), of(|_| 0)), ((0..12).collect(), (0..12).collect()));
     }
 
     #[test]
     fn the_stored_input_is_small() {
         let (frames, lines) = frames_and_lines();
-        assert!(frames.len() < 200_000, "{} bytes", frames.len());
+        assert!(frames.len() < 260_000, "{} bytes", frames.len());
         assert!(lines.split(|byte| *byte == b'\n').count() > 200);
     }
 }

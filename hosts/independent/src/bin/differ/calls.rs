@@ -3,10 +3,18 @@
 use crate::inputs::Inputs;
 use independent::bridge::{Call, Function, Room};
 use independent::entries::{fit, Entry, Input, Success};
+use independent::repair::WAYS;
 use independent::{reading, Refusal};
 
 /// A case that is longer has one room and one polygon asked for: some of them take the library a second.
 const LONG: usize = 20_000;
+
+/// The modes that are known, and numbers of none.
+const MODES: [u32; 2] = [0, 1];
+const NO_MODES: [u32; 6] = [6, 7, 256, 257, 1 << 31, u32::MAX];
+
+/// Numbers that are no way's.
+const NO_WAYS: [u32; 5] = [2, 7, 256, 1 << 31, u32::MAX];
 
 /// What an entry answers.
 type Answer = Result<Success, Refusal>;
@@ -55,24 +63,57 @@ impl Calls {
     fn functions(&self, place: u64, sheet: &[u8], every: bool) -> Vec<Function> {
         let polygons = reading::read(sheet).map_or(2, |sheet| sheet.polygons.len() as u32);
         let mut entries = vec![Entry::Numbers, Entry::Write, Entry::OwnerSets, Entry::Owners, Entry::Listing];
-        let every = every || matches!(self.inputs, Inputs::Largest(_));
-        entries.extend(asked(place, polygons, every).into_iter().map(Entry::Boundary));
-        entries.extend(self.modes(place, every).into_iter().map(Entry::Position));
-        let verdict = self.wrapped.then_some(Function::Verdict);
-        entries.into_iter().map(Function::Entry).chain(verdict).collect()
+        let largest = matches!(self.inputs, Inputs::Largest(_));
+        let asked = asked(place, polygons, every || largest);
+        entries.extend(asked.iter().copied().map(Entry::Boundary));
+        entries.extend(match (every, largest) {
+            (true, _) => self.by_all(place, &asked),
+            (false, true) => in_older_mode(),
+            (false, false) => self.by_some(place, asked[0]),
+        });
+        let verdicts = MODES.map(Function::Verdict).into_iter().filter(|_| self.wrapped);
+        entries.into_iter().map(Function::Entry).chain(verdicts).collect()
     }
 
-    /// The modes asked for: the one that there is, and all numbers of none that might be taken for it, or now and then one of
-    /// these. A wrapper has that one only.
-    fn modes(&self, place: u64, every: bool) -> Vec<u32> {
-        let unknown = [1, 7, 256, 1 << 31, u32::MAX];
-        let number = mixed(place, 101) as usize;
-        let others = match (self.wrapped, every) {
-            (true, _) => &[][..],
-            (false, true) => &unknown[..],
-            (false, false) => unknown.get(number % 24..=number % 24).unwrap_or_default(),
+    /// One of these numbers; none for a wrapper, which has known modes and ways only.
+    fn unknown(&self, numbers: &[u32], number: u64) -> Option<u32> {
+        (!self.wrapped).then_some(numbers[number as usize % numbers.len()])
+    }
+
+    /// The entries that take a mode, in every mode and a number that is no mode's; in every way and a number that is no way's,
+    /// there with some of the polygons.
+    fn by_all(&self, place: u64, polygons: &[u32]) -> Vec<Entry> {
+        let no_mode = self.unknown(&NO_MODES, mixed(place, 101));
+        let no_way = self.unknown(&NO_WAYS, mixed(place, 102));
+        let mut entries = Vec::new();
+        for mode in MODES.into_iter().chain(no_mode) {
+            entries.extend([Entry::NumbersBy(mode), Entry::OwnerSetsBy(mode), Entry::Position(mode)]);
+            for way in WAYS.into_iter().chain(no_way) {
+                entries.extend([Entry::OwnersBy(mode, way), Entry::ListingBy(mode, way)]);
+                let known = Some(mode) != no_mode && Some(way) != no_way;
+                let some = if known { polygons } else { &polygons[..3] };
+                entries.extend(some.iter().map(|polygon| Entry::BoundaryBy(mode, way, *polygon)));
+            }
+        }
+        entries
+    }
+
+    /// The numbers in the older mode, the position in the present one and in another, and one of the other entries in that: mostly
+    /// the older one, and mostly in a known way.
+    fn by_some(&self, place: u64, polygon: u32) -> Vec<Entry> {
+        let chosen = |purpose: u64, known: &[u32], others: &[u32]| {
+            let number = mixed(place, purpose);
+            let other = self.unknown(others, number / 8).filter(|_| number % 8 == 0);
+            other.unwrap_or(known[if number % 8 == 1 { 0 } else { known.len() - 1 }])
         };
-        [&[0], others].concat()
+        let (mode, way) = (chosen(101, &MODES, &NO_MODES), chosen(102, &WAYS, &NO_WAYS));
+        let other = match mixed(place, 103) % 4 {
+            0 => Entry::OwnerSetsBy(mode),
+            1 => Entry::OwnersBy(mode, way),
+            2 => Entry::BoundaryBy(mode, way, polygon),
+            _ => Entry::ListingBy(mode, way),
+        };
+        vec![Entry::Position(0), Entry::NumbersBy(1), Entry::Position(mode), other]
     }
 
     /// The sheet, and the write function's numbers, of which a wrapper takes whole ones.
@@ -84,6 +125,12 @@ impl Calls {
         }
         (sheet, numbers)
     }
+}
+
+/// Each entry that takes a mode, in the older one; and the position in the present one.
+fn in_older_mode() -> Vec<Entry> {
+    let read = [Entry::Position(0), Entry::Position(1), Entry::NumbersBy(1), Entry::OwnerSetsBy(1)];
+    [&read[..], &[Entry::OwnersBy(1, 0), Entry::BoundaryBy(1, 0, 1), Entry::ListingBy(1, 0)]].concat()
 }
 
 /// A number that a place and a purpose fix.

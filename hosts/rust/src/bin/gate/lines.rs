@@ -2,7 +2,7 @@
 use std::ffi::OsStr;
 use std::os::unix::ffi::OsStrExt;
 
-use sheets::{Refusal, Verdict};
+use sheets::{Mode, Refusal, Verdict};
 
 use crate::names::shown;
 
@@ -15,12 +15,12 @@ pub enum Outcome {
 }
 
 impl Outcome {
-    /// What becomes of a sheet.
-    pub fn of(sheet: &[u8]) -> Outcome {
-        match sheets::verdict(sheet) {
+    /// What becomes of a sheet that is read in this mode.
+    pub fn of(sheet: &[u8], mode: Mode) -> Outcome {
+        match sheets::verdict_by(sheet, mode) {
             Verdict::Clean => Outcome::Clean,
             Verdict::Repair => Outcome::Repair,
-            Verdict::Refused(refusal) => Outcome::Refused(refusal, refusal.of_reading().then(|| sheets::position(sheet).byte)),
+            Verdict::Refused(refusal) => Outcome::Refused(refusal, refusal.of_reading().then(|| sheets::position_by(sheet, mode).byte)),
         }
     }
 

@@ -16,8 +16,9 @@ use std::time::{Duration, Instant};
 use files::Candidate;
 use lines::Outcome;
 use names::shown;
+use sheets::Mode;
 
-const HELP: &str = "usage: gate [--json] [--flat] PATH..
+const HELP: &str = "usage: gate [--json] [--flat] [--older] PATH..
 Checks sheet files on all cores, and prints a verdict line for each, in the order of the command, and a summary.
   FILE: clean, FILE: repair, FILE: refused CODE ITEM: WHY, or FILE: could not be read: WHY
 With the codes 1 to 8 it is refused CODE ITEM at byte N: WHY, where N is the place of the fault in the file, 0 for its first byte.
@@ -25,6 +26,7 @@ PATH is a regular file, - for standard input, or a folder: its files whose names
 paths. What is passed over in a folder is said on standard error and counted in the summary; a folder without a sheet could not be read.
   --json       one JSON object on a line for each file, and one for the summary
   --flat       only the files of a folder itself
+  --older      the sheets are of the older edition: rings that run the wrong way are turned
   -h, --help   this text
   --version    the version
   --           every word behind it is a path
@@ -57,6 +59,7 @@ fn put(text: &str) {
 struct Command {
     json: bool,
     flat: bool,
+    mode: Mode,
     paths: Vec<OsString>,
 }
 
@@ -72,6 +75,7 @@ impl Command {
                 b"--version" => finish(concat!("gate ", env!("CARGO_PKG_VERSION"), "\n")),
                 b"--json" => command.json = true,
                 b"--flat" => command.flat = true,
+                b"--older" => command.mode = Mode::Older,
                 b"--" => only_paths = true,
                 text => {
                     let name = shown(text);
@@ -95,21 +99,21 @@ fn refuse(why: &str) -> ! {
     exit(UNREADABLE)
 }
 
-fn check(candidate: &Candidate) -> Outcome {
+fn check(candidate: &Candidate, mode: Mode) -> Outcome {
     if let Some(why) = &candidate.unread {
         return Outcome::Unread(why.clone());
     }
     match files::read(&candidate.name) {
-        Ok(sheet) => Outcome::of(&sheet),
+        Ok(sheet) => Outcome::of(&sheet, mode),
         Err(why) => Outcome::Unread(why),
     }
 }
 
 /// Checks candidate after candidate, until none is left or nobody wants to know.
-fn work(candidates: &[Candidate], next: &AtomicUsize, outcomes: mpsc::Sender<(usize, Outcome)>) {
+fn work(candidates: &[Candidate], mode: Mode, next: &AtomicUsize, outcomes: mpsc::Sender<(usize, Outcome)>) {
     loop {
         let place = next.fetch_add(1, Ordering::Relaxed);
-        if place >= candidates.len() || outcomes.send((place, check(&candidates[place]))).is_err() {
+        if place >= candidates.len() || outcomes.send((place, check(&candidates[place], mode))).is_err() {
             return;
         }
     }
@@ -129,14 +133,14 @@ fn in_order(outcomes: mpsc::Receiver<(usize, Outcome)>, mut ready: impl FnMut(us
 }
 
 /// Checks all candidates, each core taking the next one, and hands the outcomes on in order.
-fn check_all(candidates: &[Candidate], ready: impl FnMut(usize, Outcome)) {
+fn check_all(candidates: &[Candidate], mode: Mode, ready: impl FnMut(usize, Outcome)) {
     let next = AtomicUsize::new(0);
     let cores = std::thread::available_parallelism().map_or(1, |n| n.get());
     let (sender, receiver) = mpsc::channel();
     std::thread::scope(|scope| {
         for core in 0..cores.min(candidates.len()) {
             let (next, sender) = (&next, sender.clone());
-            let started = std::thread::Builder::new().stack_size(2 * sheets::STACK).spawn_scoped(scope, move || work(candidates, next, sender));
+            let started = std::thread::Builder::new().stack_size(2 * sheets::STACK).spawn_scoped(scope, move || work(candidates, mode, next, sender));
             match started {
                 Err(error) if core == 0 => refuse(&format!("no thread could be started: {}", files::reason(&error))),
                 Err(_) => break,
@@ -187,7 +191,7 @@ fn main() {
     }
     let mut progress = Progress::of(found.candidates.len());
     let mut counts = [0; 4];
-    check_all(&found.candidates, |place, outcome| {
+    check_all(&found.candidates, command.mode, |place, outcome| {
         counts[outcome.status()] += 1;
         put(&outcome.line(&found.candidates[place].name, command.json));
         progress.at(place + 1);

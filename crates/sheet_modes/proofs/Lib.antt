@@ -1,0 +1,3 @@
+-- The laws of reading in a mode.
+pub mod Modes
+pub mod Endings

@@ -1,0 +1,2 @@
+-- Turning the rings of a sheet in numbers where they stand.
+pub mod Standing

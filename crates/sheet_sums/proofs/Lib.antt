@@ -1,0 +1,2 @@
+-- The theorems of summing up along a ring.
+pub mod Summing

@@ -1,0 +1,1 @@
+// The sheet with its rings turned stands in specs/; there is no code.

@@ -1,2 +1,0 @@
--- The laws of the work arrays of the general functions.
-pub mod Room
