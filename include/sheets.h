@@ -43,17 +43,22 @@ extern "C" {
 #define SHEETS_BOUNDARY_ROOM 49152
 #define SHEETS_LISTING_ROOM 6600
 #define SHEETS_POSITION_ROOM 16
+#define SHEETS_BLOB_NUMBERS_ROOM 65804
+#define SHEETS_WRITE_BLOB_ROOM 158330
 
 /* What the entries whose names end in _by are asked by, and sheet_position: the mode, how the sheet is read, and the way, how gaps are filled. */
 #define SHEETS_MODE_PRESENT 0
 #define SHEETS_MODE_OLDER 1
+#define SHEETS_MODE_BLOB 2
+#define SHEETS_MODE_OLDER_BLOB 3
 #define SHEETS_WAY_PRIORITY 0
 
 /* Free stack that a calling thread needs, in bytes. */
 #define SHEETS_STACK 524288
 
 /* So many bytes of a file are always enough to read the sheet in it: what an entry answers on the first so many of longer ones is what it answers on
-   all. The longest sheet has 185,938 bytes, and no input is looked at beyond 185,978 before it is refused; docs/DECISIONS.md has the reckoning. */
+   all. The longest sheet has 185,938 bytes, and no input is looked at beyond 185,978 before it is refused, a blob's 40 bytes more each; docs/DECISIONS.md
+   has the reckoning. */
 #define SHEETS_READ_CAP 196608
 
 /* The sheet in numbers, as little-endian int32: the triangle count and six numbers for each triangle; the polygon count, and for each polygon the
@@ -86,8 +91,8 @@ uint64_t sheet_listing(const uint8_t *sheet, size_t sheet_len, uint8_t *out, siz
    counted in bytes from 0, as two little-endian uint64. The position is 0 for any answer but the refusals 1 to 8, which the other entries that take a
    sheet give alike. It is that of the field's first byte: for 1 of the field that is cut short, a point being one field, which may be sheet_len; for 2
    of the byte order, for 3 and 8 of the type, for 4 of the count, or of the type of the 65th polygon under a member; for 5 of the double, x before y;
-   for 6 of the ring's last point; for 7 of what follows the sheet. It is the same in every mode; for a mode that isn't known the answer told is 57. Item: 16,
-   the bytes. Refusal: 40. */
+   for 6 of the ring's last point; for 7 of what follows the sheet. In a blob it is counted from the blob's first byte. It doesn't depend on the edition; for a
+   mode that isn't known the answer told is 57. Item: 16, the bytes. Refusal: 40. */
 uint64_t sheet_position(const uint8_t *sheet, size_t sheet_len, uint32_t mode, uint8_t *out, size_t out_len);
 
 /* The entries above that take a sheet, by a mode and a way. Items and rooms are those of the entries without _by, which are the ones in
@@ -98,23 +103,35 @@ uint64_t sheet_position(const uint8_t *sheet, size_t sheet_len, uint32_t mode, u
    ring that is turned has its points in reverse order; one of double area 0 stays, and so do the triangles. All that follows is about the rings so turned.
    What sheet_write makes of these numbers is read as the same numbers in either mode.
 
+   SHEETS_MODE_BLOB is for sheets in the geometry blobs of GeoPackage tables (OGC 12-128), SHEETS_MODE_OLDER_BLOB for those of the older edition: before the sheet
+   stands a header of `GP`, version 0, a flags byte, a reference-system number and perhaps an envelope, the least and the greatest x and then y as doubles. It is
+   looked at field by field, with 1 where one is cut short, 50 for other letters, another version, and flags of empty, extended or reserved geometries, and 51,
+   at the flags, for an envelope kind above 1. These come before the sheet is read. The envelope must be the table's frame as numbers, else 52: right
+   after 12, and in sheet_numbers_by right after reading. In these modes "1 to 8" below is "50, 51, 1 to 8", and the numbers of sheet_numbers_by have the
+   reference-system number before them: SHEETS_BLOB_NUMBERS_ROOM.
+
    Any other mode is refused 57, before everything else, and any other way 54, right before 30. In the listing 57 is the only line, and 54 stands in the place
    of the lines `after`, as 30 does. */
 
-/* sheet_numbers in a mode. Refusals: 57, 1 to 8, 40. */
+/* sheet_numbers in a mode. Refusals: 57, 1 to 8, 52, 40. */
 uint64_t sheet_numbers_by(const uint8_t *sheet, size_t sheet_len, uint32_t mode, uint8_t *out, size_t out_len);
 
-/* sheet_owner_sets in a mode. Refusals: 57, 1 to 8, 10, 11, 12, 20/21, 40. */
+/* sheet_owner_sets in a mode. Refusals: 57, 1 to 8, 10, 11, 12, 52, 20/21, 40. */
 uint64_t sheet_owner_sets_by(const uint8_t *sheet, size_t sheet_len, uint32_t mode, uint8_t *out, size_t out_len);
 
-/* sheet_owners in a mode and a way. Refusals: 57, 1 to 8, 10, 11, 12, 20/21, 54, 30, 40. */
+/* sheet_owners in a mode and a way. Refusals: 57, 1 to 8, 10, 11, 12, 52, 20/21, 54, 30, 40. */
 uint64_t sheet_owners_by(const uint8_t *sheet, size_t sheet_len, uint32_t mode, uint32_t way, uint8_t *out, size_t out_len);
 
-/* sheet_boundary in a mode and a way. Refusals: 57, 1 to 8, 10, 11, 12, 20/21, 41, 54, 30 (never), 40. */
+/* sheet_boundary in a mode and a way. Refusals: 57, 1 to 8, 10, 11, 12, 52, 20/21, 41, 54, 30 (never), 40. */
 uint64_t sheet_boundary_by(const uint8_t *sheet, size_t sheet_len, uint32_t mode, uint32_t way, uint32_t polygon, uint8_t *out, size_t out_len);
 
 /* sheet_listing in a mode and a way. Refusal: 40. */
 uint64_t sheet_listing_by(const uint8_t *sheet, size_t sheet_len, uint32_t mode, uint32_t way, uint8_t *out, size_t out_len);
+
+/* The blob that the numbers make up: the reference-system number first, any int32, then the numbers of the sheet. Its header is little-endian and has the frame
+   of the table as its envelope, whether or not the table keeps the rules; the sheet is as sheet_write makes it. Reading it in SHEETS_MODE_BLOB gives the same
+   numbers back. Item: bytes. Refusals: 42, 40. */
+uint64_t sheet_write_blob(const uint8_t *numbers, size_t numbers_len, uint8_t *out, size_t out_len);
 
 #ifdef __cplusplus
 }

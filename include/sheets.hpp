@@ -35,8 +35,13 @@ struct Side {
     std::int32_t ux, uy, vx, vy;
 };
 
-// How a sheet is read: as it stands, or as one of the older edition, whose rings are turned.
-enum class Mode : std::uint32_t { Present = SHEETS_MODE_PRESENT, Older = SHEETS_MODE_OLDER };
+// How a sheet is read: as it stands, or as one of the older edition, whose rings are turned; each from its own bytes, or from a GeoPackage's blob.
+enum class Mode : std::uint32_t {
+    Present = SHEETS_MODE_PRESENT,
+    Older = SHEETS_MODE_OLDER,
+    Blob = SHEETS_MODE_BLOB,
+    OlderBlob = SHEETS_MODE_OLDER_BLOB,
+};
 
 // How gaps are filled: each goes to the largest number beside it.
 enum class Way : std::uint32_t { Priority = SHEETS_WAY_PRIORITY };
@@ -127,10 +132,18 @@ std::uint32_t number(Choice choice) {
     return static_cast<std::uint32_t>(choice);
 }
 
+// The little-endian bytes of numbers.
+inline Bytes bytes_of(const std::vector<std::int32_t> &numbers) {
+    Bytes bytes;
+    for (std::int32_t number : numbers)
+        for (int k = 0; k < 4; k++) bytes.push_back(static_cast<std::uint8_t>(static_cast<std::uint32_t>(number) >> 8 * k));
+    return bytes;
+}
+
 // What an entry answers in ordinary types.
 template <class Entry>
-Answer<std::vector<std::int32_t>> numbers(Entry entry) {
-    Answer<Bytes> answer = call(SHEETS_NUMBERS_ROOM, 1, entry);
+Answer<std::vector<std::int32_t>> numbers(std::size_t room, Entry entry) {
+    Answer<Bytes> answer = call(room, 1, entry);
     return {answer.refusal, numbers_of<std::int32_t>(answer.value)};
 }
 
@@ -185,16 +198,24 @@ inline std::string sentence(Refusal refusal) {
 // The sheet in numbers: the triangle count and six numbers each, the polygon count, then for each its parts, rings and points, every count before what it
 // counts, rings closed.
 inline Answer<std::vector<std::int32_t>> numbers(const std::uint8_t *sheet, std::size_t size) {
-    return inside::numbers([&](std::uint8_t *lent, std::size_t room) { return sheet_numbers(inside::given(sheet, size), size, lent, room); });
+    return inside::numbers(SHEETS_NUMBERS_ROOM, [&](std::uint8_t *lent, std::size_t room) {
+        return sheet_numbers(inside::given(sheet, size), size, lent, room);
+    });
 }
 
 // The bytes of the sheet that the numbers make up, in one normal form.
 inline Answer<Bytes> write(const std::vector<std::int32_t> &numbers) {
-    Bytes given;
-    for (std::int32_t number : numbers)
-        for (int k = 0; k < 4; k++) given.push_back(static_cast<std::uint8_t>(static_cast<std::uint32_t>(number) >> 8 * k));
+    const Bytes given = inside::bytes_of(numbers);
     return inside::call(SHEETS_WRITE_ROOM, 1, [&](std::uint8_t *lent, std::size_t room) {
         return sheet_write(inside::given(given.data(), given.size()), given.size(), lent, room);
+    });
+}
+
+// The blob that the numbers make up, the reference-system number before those of the sheet.
+inline Answer<Bytes> write_blob(const std::vector<std::int32_t> &numbers) {
+    const Bytes given = inside::bytes_of(numbers);
+    return inside::call(SHEETS_WRITE_BLOB_ROOM, 1, [&](std::uint8_t *lent, std::size_t room) {
+        return sheet_write_blob(inside::given(given.data(), given.size()), given.size(), lent, room);
     });
 }
 
@@ -235,9 +256,9 @@ inline bool of_reading(Refusal refusal) { return refusal.code >= 1 && refusal.co
 // The verdict on a sheet.
 inline Verdict verdict(const std::uint8_t *sheet, std::size_t size) { return inside::verdict(owner_sets(sheet, size)); }
 
-// The same in a mode and a way; those above are in the present mode and by priority.
+// The same in a mode and a way; those above are in the present mode and by priority. The first number of a blob is its reference-system number.
 inline Answer<std::vector<std::int32_t>> numbers_by(const std::uint8_t *sheet, std::size_t size, Mode mode) {
-    return inside::numbers([&](std::uint8_t *lent, std::size_t room) {
+    return inside::numbers(SHEETS_BLOB_NUMBERS_ROOM, [&](std::uint8_t *lent, std::size_t room) {
         return sheet_numbers_by(inside::given(sheet, size), size, inside::number(mode), lent, room);
     });
 }

@@ -21,5 +21,5 @@ def answers(paths, mode=0):
 
 
 def cases(folder):
-    """Writes the sheets that were made by hand to the folder, by names that say what each tries."""
+    """Writes the sheets and the blobs that were made by hand to the folder, as .wkb and .gpb, by names that say what each tries."""
     run("cases", folder)

@@ -3,8 +3,8 @@
 
 What they do with files that are no sheets, with names of any bytes, with long files, and where memory, disk or patience end, is tried with them.
 
-    python3 tests/programs.py CHECKER GATE FOLDER             'N passed, M failed'; FOLDER has 500 sheets of every kind and 16 of the largest
-    python3 tests/programs.py --sheets CHECKER GATE FOLDER    the same of the verdicts and listings alone, on whatever sheets FOLDER has
+    python3 tests/programs.py CHECKER GATE FOLDER             'N passed, M failed'; FOLDER has 500 sheets of every kind and 16 of the largest, and blobs of them
+    python3 tests/programs.py --sheets CHECKER GATE FOLDER    the same of the verdicts and listings alone, on whatever sheets and blobs FOLDER has
 
 CHECKER and GATE are commands, with an emulator before them where one is needed.
 """
@@ -19,6 +19,7 @@ import resource
 import select
 import signal
 import socket
+import struct
 import subprocess
 import sys
 import tempfile
@@ -170,7 +171,9 @@ class Programs:
 
 
 # The words of a command that name a mode, by the mode's number.
-MODES = ([], ["--older"])
+MODES = ([], ["--older"], ["--blob"], ["--older", "--blob"])
+# What the names of sheets and of blobs end in, as a folder has them.
+ENDS = (".wkb", ".gpb")
 
 
 def sheets_of(programs, what, paths, mode=0):
@@ -184,14 +187,24 @@ def sheets_of(programs, what, paths, mode=0):
     return lines, outcomes + [equal(what + ", listings", run(programs.checker, *words), (max(map(kind, lines)), listed, refusals_told))]
 
 
-def in_modes(programs, what, paths):
-    """The lines of the sheets in each mode, and what came out."""
-    lines, outcomes = zip(*(sheets_of(programs, "%s, mode %d" % (what, mode), paths, mode) for mode in range(len(MODES))))
+def in_modes(programs, what, paths, modes=(0, 1)):
+    """The lines of the sheets in each of these modes, and what came out."""
+    lines, outcomes = zip(*(sheets_of(programs, "%s, mode %d" % (what, mode), paths, mode) for mode in modes))
     return lines, sum(outcomes, [])
 
 
+def files_of(folder, end):
+    return sorted(glob.glob(os.path.join(folder, "*" + end)))
+
+
 def wkb_of(folder):
-    return sorted(glob.glob(os.path.join(folder, "*.wkb")))
+    return files_of(folder, ".wkb")
+
+
+def in_all_modes(programs, what, folder):
+    """The lines of a folder's sheets and of its blobs in each mode, and what came out."""
+    sheets, blobs = (in_modes(programs, what, files_of(folder, end), modes) for end, modes in zip(ENDS, ((0, 1), (2, 3))))
+    return sheets[0] + blobs[0], sheets[1] + blobs[1]
 
 
 def contents(path):
@@ -200,21 +213,26 @@ def contents(path):
 
 
 def generated(programs, folder):
-    """The folder's sheets, named one by one and as a folder; every kind of verdict in each mode, sheets that are refused in one mode alone, and the largest
-    are among them."""
-    paths = wkb_of(folder)
-    every, outcomes = in_modes(programs, "generated sheets", paths)
-    largest = [path for path in paths if os.path.basename(path).startswith("largest-")]
-    changes = {(kind(present), kind(older)) for present, older in zip(*every)}
-    for words, lines in zip(MODES, every):
+    """The folder's sheets and blobs, named one by one and as a folder; every kind of verdict in each mode, sheets that are refused in one mode alone, every
+    refusal of blobs, and the largest are among them."""
+    every, outcomes = in_all_modes(programs, "generated sheets", folder)
+    for mode, (words, lines) in enumerate(zip(MODES, every)):
+        end, other = ENDS if mode < 2 else ENDS[::-1]
+        passed = files_of(folder, other)
+        messages = ["gate: " + line(path, "passed over: its name doesn't end in " + end) for path in passed]
         outcomes += [
-            equal("the folder", run(programs.gate, folder, *words), (2, lines + [summary(lines)], [])),
+            equal("the folder", run(programs.gate, folder, *words), (2, lines + [summary(lines, len(passed))], messages)),
             equal("kinds", {kind(said) for said in lines}, {0, 1, 2}),
+            equal("refused by 50, 51, 52", [code for code in (50, 51, 52) if any(": refused %d 0: " % code in said for said in lines)], [50, 51, 52] * (mode > 1)),
         ]
-    return outcomes + [
-        equal("refused in one mode alone", {(0, 2), (1, 2), (2, 0), (2, 1)} - changes, set()),
-        equal("enough sheets", (len(paths) >= 500, len(largest) >= 16), (True, True)),
-    ]
+    for present, older in (every[:2], every[2:]):
+        changes = {(kind(one), kind(other)) for one, other in zip(present, older)}
+        outcomes.append(equal("refused in one mode alone", {(0, 2), (1, 2), (2, 0), (2, 1)} - changes, set()))
+    for end in ENDS:
+        paths = files_of(folder, end)
+        largest = [path for path in paths if os.path.basename(path).startswith("largest-")]
+        outcomes.append(equal("enough sheets", (len(paths) >= 500, len(largest) >= 16), (True, True)))
+    return outcomes
 
 
 def examples(programs):
@@ -286,7 +304,74 @@ def older_edition(programs, cases):
     ]
 
 
+def blobs(programs, cases):
+    """Verdicts on blobs, made by hand, in words: with --blob, alone and with --older, wherever these words stand; what is no blob; and folders of them."""
+    carried, frame = "refused 20 1: no set of triangles carries polygon 1", "refused 52 0: the blob's envelope isn't the frame of its triangles"
+    strange, heights = (refused(code, 0) for code in (50, 51))
+    wanted = {
+        "the strip sheet in a little-endian blob with an envelope": ("repair",) * 2,
+        "the strip sheet in a big-endian blob without one": ("repair",) * 2,
+        "the strip sheet clockwise in a blob": (carried, "repair"),
+        "reference system -1, big-endian, with an envelope": ("clean",) * 2,
+        "an envelope with -0 for 0, big-endian": ("repair",) * 2,
+        "an envelope with the greatest y NaN, little-endian": (frame,) * 2,
+        "a polygon not carried, the envelope wrong": (frame,) * 2,
+        "rule C broken, the envelope wrong": ("refused 12 0: the triangles don't make up the frame",) * 2,
+        "no bytes for a blob": ("refused 1 0 at byte 0: the bytes end too early for the next field of the sheet's own header",) * 2,
+        "39 bytes of a big-endian blob with an envelope": ("refused 1 0 at byte 8: the bytes end too early for the next field of the sheet's own header",) * 2,
+        "half a millimetre as y in a big-endian blob with an envelope":
+            ("refused 5 2 at byte 695: a point in member 2 isn't given in whole millimetres within 10,000,000",) * 2,
+        "a byte after the sheet in a little-endian blob without one": ("refused 7 0 at byte 828: there are bytes after the sheet",) * 2,
+        "a blob in a blob": ("refused 2 0 at byte 40: a byte order in the sheet's own header is neither 0 nor 1",) * 2,
+        "a sheet for a blob": ("refused 50 0: it isn't a GeoPackage blob of version 0 with an ordinary geometry",) * 2,
+        "flags 00010011": (strange,) * 2,
+        "flags 00000101": ("refused 51 0: the blob's envelope is of a kind that isn't read: none, or x and y alone",) * 2,
+        "flags 00001111, nothing behind them": (heights,) * 2,
+    }
+    paths = [os.path.join(cases, name + ".gpb") for name in wanted]
+    present, older = ([line(path, said[mode]) for path, said in zip(paths, wanted.values())] for mode in (0, 1))
+    outcomes = []
+    for words in (["--blob", *paths], [*paths, "--blob"], ["--blob", "--blob", "--", *paths]):
+        outcomes += programs.same("blobs", words, present)
+    for words in (["--blob", "--older", *paths], ["--older", *paths, "--blob"]):
+        outcomes += programs.same("blobs of the older edition", words, older)
+    blob = contents(os.path.join(cases, "the strip sheet in a little-endian blob with an envelope.gpb"))
+    listing = contents(os.path.join(EXAMPLES, "strip.txt")).decode().splitlines()
+    no_sheet = "refused 2 0 at byte 0: a byte order in the sheet's own header is neither 0 nor 1"
+    outcomes += [
+        equal("a blob's listing", run(programs.checker, "--blob", given=blob), (1, listing, [])),
+        equal("a blob for a sheet", run(programs.checker, given=blob), (2, ["refused 2 0"], [line("-", no_sheet)])),
+    ]
+    with folder_of({"a.gpb": blob, "b/c.GPB": b"", "d.wkb": b"", "e/f.wkb": b""}) as folder:
+        def path(name):
+            return os.path.join(folder, os.fsencode(name))
+        lines = [line(path("a.gpb"), "repair"), line(path("b/c.GPB"), EMPTY)]
+        passed = ["gate: " + line(path(name), "passed over: its name doesn't end in .gpb") for name in ("d.wkb", "e/f.wkb")]
+        nothing = [unread(path("e"), "there is no blob in it, no file whose name ends in .gpb")]
+        outcomes += [
+            equal("a folder of blobs", run(programs.gate, "--blob", folder), (2, lines + [summary(lines, 2)], passed)),
+            equal("no blob in it", run(programs.gate, "--blob", path("e")), (3, nothing + [summary(nothing, 1)], passed[1:])),
+        ]
+    return outcomes
+
+
 # ---------------------------------------------------------------------------------------------------------------- long files
+
+
+def long_blobs(programs, sheet, farthest):
+    """The same in blobs, with the longest header."""
+    header = b"GP\0\3" + struct.pack("<i4d", 4326, 0, 64, 0, 32)
+    files = {
+        "sheet": (header + sheet, "clean"),
+        "sheet and more": (header + sheet + bytes(300_000), refused(7, 0, len(sheet) + 40)),
+        "fault": (header + farthest + bytes(300_000), refused(4, 65, len(farthest) + 36)),
+        "fault cut": (header + farthest[:-1], refused(1, 65, len(farthest) + 36)),
+    }
+    with folder_of({name: content for name, (content, _) in files.items()}) as folder:
+        paths = [os.path.join(folder, name.encode()) for name in files]
+        answers = independent.answers(paths, 2)
+        outcomes = [equal(name, told(verdict), said) for (name, (_, said)), (verdict, _) in zip(files.items(), answers)]
+        return outcomes + programs.same("long blobs", ["--blob", *paths], [line(path, said) for path, (_, said) in zip(paths, files.values())])
 
 
 def long_files(programs, cases):
@@ -300,11 +385,12 @@ def long_files(programs, cases):
     files["fault cut"] = (farthest[:-1], refused(1, 65, len(farthest) - 4))
     files["sheet cut"] = (sheet[:-1], refused(1, 65, len(sheet) - 16))
     files["noise"] = (b"\0" * 1_000_000, refused(3, 0, 1))
+    outcomes = long_blobs(programs, sheet, farthest)
     with folder_of({name: content for name, (content, _) in files.items()}) as folder:
         paths = [os.path.join(folder, name.encode()) for name in files]
         lines = [line(path, said) for path, (_, said) in zip(paths, files.values())]
         answers = independent.answers(paths)
-        outcomes = [equal(name, told(verdict), said) for (name, (_, said)), (verdict, _) in zip(files.items(), answers)]
+        outcomes += [equal(name, told(verdict), said) for (name, (_, said)), (verdict, _) in zip(files.items(), answers)]
         outcomes += programs.same("long files", paths, lines)
         for name in ("sheet and 300000 more", "fault and 300000 more"):
             content, said = files[name]
@@ -529,7 +615,8 @@ def as_they_come(programs, sheets, lines):
         with start(command, *sheets, "-", preexec_fn=lambda: signal.signal(signal.SIGINT, signal.SIG_DFL)) as program:
             outcomes.append(equal("lines as they come", waited(program, len(sheets)), lines))
             program.send_signal(signal.SIGINT)
-            outcomes.append(equal("Ctrl-C", (program.communicate(timeout=60)[0], program.returncode), (b"", -signal.SIGINT)))
+            ended = program.wait(timeout=60)  # standard input stays open until then
+            outcomes.append(equal("Ctrl-C", (program.stdout.read(), ended), (b"", -signal.SIGINT)))
         with start(command, "-", *sheets) as program:
             outcomes.append(equal("order", select.select([program.stdout], [], [], 0.5)[0], []))
             program.stdin.close()
@@ -557,7 +644,7 @@ def main(checker, gate, folder):
     outcomes += generated(programs, folder) + examples(programs)
     with tempfile.TemporaryDirectory() as cases:
         independent.cases(cases)
-        outcomes += sentences(programs, cases) + older_edition(programs, cases) + long_files(programs, cases)
+        outcomes += sentences(programs, cases) + older_edition(programs, cases) + blobs(programs, cases) + long_files(programs, cases)
     outcomes += any_names(programs) + irregular(programs) + folders(programs) + options(programs)
     outcomes += unwritable(programs, stored) + as_they_come(programs, stored, lines) + progress(programs.gate, stored[0])
     if len(checker.split()) == 1:  # an emulator needs memory of its own
@@ -569,5 +656,5 @@ def main(checker, gate, folder):
 if __name__ == "__main__":
     if sys.argv[1:2] == ["--sheets"]:
         *commands, where = sys.argv[2:]
-        sys.exit(tally(in_modes(Programs(*commands), "sheets", wkb_of(where))[1]))
+        sys.exit(tally(in_all_modes(Programs(*commands), "sheets", where)[1]))
     sys.exit(main(*sys.argv[1:]))

@@ -1,8 +1,8 @@
 // Calls the entries, or the functions of sheets.hpp, as the frames of standard input say, for a program that has the library on the other side of a pipe.
 // A frame: u8 function (0 numbers, 1 write, 2 owner sets, 3 owners, 4 boundary, 5 listing, 6 verdict, 7 position; 8 numbers, 9 owner sets, 10 owners, 11 boundary,
-// 12 listing by what is asked), u32 LE mode, u32 LE way, u32 LE polygon, u32 LE input length, u32 LE room, input. The answer: u64 LE packed answer, then the lent
-// bytes after the entry's call; lent byte i is (i * 131 + 17) % 256 before it. Bytes before and behind the lent ones are watched: where a call changes one, or one
-// of its input, the program ends with status 2.
+// 12 listing by what is asked; 13 write blob), u32 LE mode, u32 LE way, u32 LE polygon, u32 LE input length, u32 LE room, input. The answer: u64 LE packed answer,
+// then the lent bytes after the entry's call; lent byte i is (i * 131 + 17) % 256 before it. Bytes before and behind the lent ones are watched: where a call
+// changes one, or one of its input, the program ends with status 2.
 // With a room of 2^32 - 1 a function of sheets.hpp is called. The answer: u64 LE packed answer, u32 LE length, its value in so many bytes, none for a refusal; a
 // verdict is one byte, 0 clean or 1 repair, and in mode 0 a verdict and a position are those without a mode. With --stack N the calls are made on a thread with N KiB
 // of stack.
@@ -54,6 +54,7 @@ std::uint64_t call(const Asked &asked, const std::uint8_t *input, std::size_t si
         case 10: return sheet_owners_by(input, size, asked.mode, asked.way, lent, room);
         case 11: return sheet_boundary_by(input, size, asked.mode, asked.way, asked.polygon, lent, room);
         case 12: return sheet_listing_by(input, size, asked.mode, asked.way, lent, room);
+        case 13: return sheet_write_blob(input, size, lent, room);
     }
     std::exit(3);
 }
@@ -155,8 +156,10 @@ Value counted(const sheets::Answer<T> &answer, bool by_bytes) {
 
 // The mode and the way of a number.
 sheets::Mode mode_of(std::uint32_t number) {
-    if (number > 1) std::exit(3);
-    return number == 0 ? sheets::Mode::Present : sheets::Mode::Older;
+    using sheets::Mode;
+    static const Mode modes[] = {Mode::Present, Mode::Older, Mode::Blob, Mode::OlderBlob};
+    if (number > 3) std::exit(3);
+    return modes[number];
 }
 
 sheets::Way way_of(std::uint32_t number) {
@@ -182,6 +185,7 @@ Value wrapped(const Asked &asked, const std::uint8_t *input, std::size_t size) {
         case 10: return counted(sheets::owners_by(input, size, mode, way), false);
         case 11: return counted(sheets::boundary_by(input, size, mode, way, asked.polygon), false);
         case 12: return listing(sheets::listing_by(input, size, mode, way));
+        case 13: return counted(sheets::write_blob(numbers_in(input, size)), true);
     }
     std::exit(3);
 }

@@ -30,11 +30,12 @@ using sheets::Verdict;
 enum Status { Clean = 0, Repair = 1, Refused = 2, Unreadable = 3 };
 
 const char help[] =
-    "usage: checker [--batch] [--older] [FILE..]\n"
+    "usage: checker [--batch] [--older] [--blob] [FILE..]\n"
     "Prints the listing of each sheet file, with its name above where there are several, or of standard input where no file is named.\n"
     "The verdict line of a sheet that is refused or could not be read goes to standard error.\n"
     "  --batch      the verdict lines alone: FILE: clean, FILE: repair, FILE: refused CODE ITEM: WHY, or FILE: could not be read: WHY\n"
     "  --older      the sheets are of the older edition: rings that run the wrong way are turned\n"
+    "  --blob       each file is a geometry blob of a GeoPackage table, with a sheet in it\n"
     "  -h, --help   this text\n"
     "  --version    the version\n"
     "  --           every word behind it is a file\n"
@@ -144,10 +145,15 @@ int check_all(std::vector<std::string> paths, Mode mode, bool batch) {
     return worst;
 }
 
+// How sheets are read of which this is said.
+Mode mode_of(bool older, bool blob) {
+    if (blob) return older ? Mode::OlderBlob : Mode::Blob;
+    return older ? Mode::Older : Mode::Present;
+}
+
 // Does what the words of the command say.
 int run(const std::vector<std::string> &words) {
-    bool batch = false, only_files = false;
-    Mode mode = Mode::Present;
+    bool batch = false, older = false, blob = false, only_files = false;
     std::vector<std::string> paths;
     for (const std::string &word : words) {
         if (only_files || word == "-" || word.substr(0, 1) != "-") {
@@ -161,7 +167,9 @@ int run(const std::vector<std::string> &words) {
         } else if (word == "--batch") {
             batch = true;
         } else if (word == "--older") {
-            mode = Mode::Older;
+            older = true;
+        } else if (word == "--blob") {
+            blob = true;
         } else if (word == "--") {
             only_files = true;
         } else {
@@ -170,7 +178,7 @@ int run(const std::vector<std::string> &words) {
             return Unreadable;
         }
     }
-    return check_all(paths, mode, batch);
+    return check_all(paths, mode_of(older, blob), batch);
 }
 
 // The command's words, and the status to end with.

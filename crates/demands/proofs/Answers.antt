@@ -4,8 +4,8 @@ use mathlib.Core.Path.{_≡_, refl, sym, _∙_, ap, subst}
 use mathlib.Core.Logic.{_↔_, Iff·trans, _⊎_, inl, inr, ⊎-elim}
 use mathlib.Core.Bool.{Bool}
 use mathlib.Core.List.{List, _++_, map, flatMap}
-use mathlib.Core.Option.{Option, none, some}
-use Prim.Native.Nat.{ℕ, _<_}
+use mathlib.Core.Option.{Option, none, some, Option·none-ne-some}
+use Prim.Native.Nat.{ℕ, _+_, _^_, _<_}
 use native.Mathlib.Omega.{arith}
 use lib.Dec.{T}
 use lib.ListN.{length, length-append}
@@ -17,18 +17,24 @@ use Rattle.lent_little.specs.Bytes.{setBytes, sideBytes}
 use Rattle.lent_little.proofs.Bytes.{set-length}
 use Rattle.owners_marks.specs.Marks.{setOf}
 use Rattle.sheet_form.specs.Numbers.{Sheet, members}
-use Rattle.sheet_modes.specs.Modes.{readBy}
+use Rattle.sheet_blob.specs.declared.Opened.{Opened}
+use Rattle.sheet_blob_written.specs.Normal.{Blob, writtenBlob}
+use Rattle.sheet_blob_written.specs.Given.{blobForm, blobGiven, writeBlob as writeBlobOutcome}
+use Rattle.sheet_blob_written.proofs.Given.{given-blob}
+use Rattle.sheet_modes.specs.Modes.{headerBy, readBy, framed}
 use Rattle.sheet_written.specs.Fits.{sheetFits}
 use Rattle.sheet_written.specs.Given.{sheetGiven, writeOutcome}
 use Rattle.sheet_written.specs.Normal.{written}
 use Rattle.sheet_written.proofs.Given.{given-form}
-use Rattle.judged.specs.Judged.{Judged, judgedSheet, repairOf}
+use Rattle.judged.specs.Judged.{Judged, matched, judgedSheet, repairOf}
+use Rattle.judged.proofs.Stages.{matched-value, matched-refused}
 use Rattle.listing_lines.specs.Lines.{refusedLine}
 use Rattle.listing.specs.Listing.{listingOf, listing as listingBy}
 use Rattle.outcomes.specs.declared.Wanted.the-variants.{OwnerSets, Owners, Boundary}
-use Rattle.outcomes.specs.Entries.{u64, telling, formOf, formOutcome, onSheet, ownedSides, sidesAfter, goesOn}
-use Rattle.demands.specs.Answers.{HasOwners, HasSets, Refused, NoOwner, Repaired, KnownWay, OnSheet}
-use Rattle.demands.specs.Entries.{numbers, position, write, ownerSets, owners, boundary, listing, outcomeOf}
+use Rattle.outcomes.specs.Entries.{u64, telling, formOf, firstOf, formOutcome, onSheet, ownedSides, sidesAfter, goesOn}
+use Rattle.demands.specs.Answers.{OtherEnvelope, HasOwners, HasSets, Refused, NoOwner, Repaired, KnownWay, OnSheet}
+use Rattle.demands.specs.Entries.{numbers, position, write, writeBlob, ownerSets, owners, boundary, listing, outcomeOf}
+use Rattle.demands.proofs.Envelopes.{framed-no, framed-yes}
 use Rattle.demands.proofs.Sets.{with-owners, has-owners, has-sets, owners-each, is-refused, answers-on, refuses-on}
 use Rattle.demands.proofs.After.{same-answer, after-answers, after-refuses, asked-passes, asked-refused}
 
@@ -63,20 +69,54 @@ module _ (mode : ℕ) (s : List ℕ) (all : All (λ b. b < 256) s) (n : Sheet) (
 -- ---- the entries, for every sequence of bytes
 module _ (mode : ℕ) (s : List ℕ) (all : All (λ b. b < 256) s) where
   -- ---- sheet_numbers
-  -- "The numbers entry writes a sheet as little-endian i32": it answers exactly if the bytes are read as a sheet, and then the sheet's numbers form;
-  -- "for the writer and the numbers entry" the item "is the number of bytes".
-  pub numbers-answers : (item : ℕ) (l : List ℕ) → (outcomeOf (numbers mode) s ≡ bytes item l) ↔ ((n : Sheet) × (readBy members mode s ≡ value n) × (l ≡ formOf n) × (item ≡ length (formOf n)))
-  numbers-answers item l = (
-    λ e. let (n, p, q) = chain-value (readBy members mode s) formOutcome (record { item = item; text = l }) .0 e in let (f, i) = same-answer (length (formOf n)) item (formOf n) l .0 q in (n, p, f, i),
-    λ (n, p, f, i). chain-value (readBy members mode s) formOutcome (record { item = item; text = l }) .1 (n, p, same-answer (length (formOf n)) item (formOf n) l .1 (f, i)),
-  )
+  -- "The numbers entry writes a sheet as little-endian i32", a blob with its reference-system number first: it answers exactly if the bytes are read as a sheet
+  -- and no envelope around it is another than the frame, and then the sheet's numbers form; "for the writer and the numbers entry" the item "is the number of bytes".
+  abbrev header : Option Opened
+  header = headerBy mode s
 
-  -- Otherwise it gives the refusal of reading: "After reading, the numbers entry has only 40."
-  pub numbers-refuses : (code item : ℕ) → (outcomeOf (numbers mode) s ≡ refused code item) ↔ (readBy members mode s ≡ refused code item)
-  numbers-refuses code item = (
-    λ e. elim (chain-refused (readBy members mode s) formOutcome code item .0 e) [ inl p ↦ p | inr (n, p, q) ↦ absurd (value-refused _ code item q) ],
-    λ p. chain-refused (readBy members mode s) formOutcome code item .1 (inl p),
-  )
+  abbrev then-form : Sheet → Outcome
+  then-form n = andThen (matched (framed header n)) (λ _. formOutcome header n)
+
+  form-length : (n : Sheet) → length (firstOf header) + length (formOf n) ≡ length (firstOf header ++ formOf n)
+  form-length n = sym (length-append (firstOf header) (formOf n))
+
+  pub numbers-answers : (item : ℕ) (l : List ℕ)
+      → (outcomeOf (numbers mode) s ≡ bytes item l) ↔ ((n : Sheet) × (readBy members mode s ≡ value n) × (OtherEnvelope mode s n → ⊥) × (l ≡ firstOf (headerBy mode s) ++ formOf n) × (item ≡ length l))
+  numbers-answers item l = (to, from)
+    where
+      w : Written
+      w = record { item = item; text = l }
+
+      to : andThen (readBy members mode s) then-form ≡ value w → (n : Sheet) × (readBy members mode s ≡ value n) × (OtherEnvelope mode s n → ⊥) × (l ≡ firstOf header ++ formOf n) × (item ≡ length l)
+      to e =
+          let (n, p, q) = chain-value (readBy members mode s) then-form w .0 e in
+          let (u, m, r) = chain-value (matched (framed header n)) (λ _. formOutcome header n) w .0 q in
+          let (f, i) = same-answer (length (firstOf header) + length (formOf n)) item (firstOf header ++ formOf n) l .0 r in
+          (n, p, framed-yes mode s n .0 (matched-value (framed header n) .0 m), f, i ∙ form-length n ∙ ap length (sym f))
+
+      from : (n : Sheet) × (readBy members mode s ≡ value n) × (OtherEnvelope mode s n → ⊥) × (l ≡ firstOf header ++ formOf n) × (item ≡ length l) → andThen (readBy members mode s) then-form ≡ value w
+      from (n, p, o, f, i) =
+          let r = same-answer (length (firstOf header) + length (formOf n)) item (firstOf header ++ formOf n) l .1 (f, i ∙ ap length f ∙ sym (form-length n)) in
+          chain-value (readBy members mode s) then-form w .1 (n, p, chain-value (matched (framed header n)) (λ _. formOutcome header n) w .1 (tt, matched-value (framed header n) .1 (framed-yes mode s n .1 o), r))
+
+  -- Otherwise it gives the refusal of reading, and then 52 for an envelope that isn't the frame: "After reading, the numbers entry has only 40."
+  pub numbers-refuses : (code item : ℕ)
+      → (outcomeOf (numbers mode) s ≡ refused code item) ↔ ((readBy members mode s ≡ refused code item) ⊎ ((code ≡ 52) × (item ≡ 0) × (n : Sheet) × (readBy members mode s ≡ value n) × OtherEnvelope mode s n))
+  numbers-refuses code item = (to, from)
+    where
+      to : andThen (readBy members mode s) then-form ≡ refused code item → (readBy members mode s ≡ refused code item) ⊎ ((code ≡ 52) × (item ≡ 0) × (n : Sheet) × (readBy members mode s ≡ value n) × OtherEnvelope mode s n)
+      to e = elim (chain-refused (readBy members mode s) then-form code item .0 e) [
+        | inl p ↦ inl p
+        | inr (n, p, q) ↦ elim (chain-refused (matched (framed header n)) (λ _. formOutcome header n) code item .0 q) [
+          | inl m ↦ let (b, c, i) = matched-refused (framed header n) code item .0 m in inr (c, i, n, p, framed-no mode s n .0 b)
+          | inr (u, m, r) ↦ absurd (value-refused _ code item r)
+        ]
+      ]
+
+      from : (readBy members mode s ≡ refused code item) ⊎ ((code ≡ 52) × (item ≡ 0) × (n : Sheet) × (readBy members mode s ≡ value n) × OtherEnvelope mode s n) → andThen (readBy members mode s) then-form ≡ refused code item
+      from (inl p) = chain-refused (readBy members mode s) then-form code item .1 (inl p)
+      from (inr (c, i, n, p, o)) =
+          chain-refused (readBy members mode s) then-form code item .1 (inr (n, p, chain-refused (matched (framed header n)) (λ _. formOutcome header n) code item .1 (inl (matched-refused (framed header n) code item .1 (framed-no mode s n .1 o, c, i)))))
 
   -- ---- sheet_position
   -- It answers for every sequence of bytes and in every mode, with two numbers of 8 bytes each; the item is 16.
@@ -92,35 +132,65 @@ module _ (mode : ℕ) (s : List ℕ) (all : All (λ b. b < 256) s) where
   pub position-refuses-nothing : (code item : ℕ) → outcomeOf (position mode) s ≡ refused code item → ⊥
   position-refuses-nothing code item e = value-refused _ code item e
 
+-- ---- a writer: it is given something of which its bytes are the form, or nothing, which is refused 42
+module _ {A : Type 0} (text : A → List ℕ) (outcome : Option A → Outcome) (nothing : outcome none ≡ refused 42 0) (something : (a : A) → outcome (some a) ≡ bytes (length (text a)) (text a))
+    (given : Option A) (Form : A → Type 0) (says : (a : A) → (given ≡ some a) ↔ Form a) where
+  writer-answers : (item : ℕ) (l : List ℕ) → (outcome given ≡ bytes item l) ↔ ((a : A) × Form a × (l ≡ text a) × (item ≡ length (text a)))
+  writer-answers item l = (go given refl, λ (a, f, e, i). ap outcome (says a .1 f) ∙ something a ∙ same-answer _ item _ l .1 (e, i))
+    where
+      go : (o : Option A) → given ≡ o → outcome o ≡ bytes item l → (a : A) × Form a × (l ≡ text a) × (item ≡ length (text a))
+      go none g q = absurd (value-refused _ 42 0 (sym q ∙ nothing))
+      go (some a) g q = let (e, i) = same-answer (length (text a)) item (text a) l .0 (sym (something a) ∙ q) in (a, says a .0 g, e, i)
+
+  writer-refuses : (code item : ℕ) → (outcome given ≡ refused code item) ↔ ((code ≡ 42) × (item ≡ 0) × ((a : A) → Form a → ⊥))
+  writer-refuses code item = (to given refl, λ (c, i, f). from f given refl ∙ same-refusal {A = Written} 42 0 code item .1 (c, i))
+    where
+      to : (o : Option A) → given ≡ o → outcome o ≡ refused code item → (code ≡ 42) × (item ≡ 0) × ((a : A) → Form a → ⊥)
+      to none g q = let (c, i) = same-refusal {A = Written} 42 0 code item .0 (sym nothing ∙ q) in (c, i, λ a f. Option·none-ne-some a (sym g ∙ says a .1 f))
+      to (some a) g q = absurd (value-refused _ code item (sym (something a) ∙ q))
+
+      from : ((a : A) → Form a → ⊥) → (o : Option A) → given ≡ o → outcome given ≡ refused 42 0
+      from f none g = ap outcome g ∙ nothing
+      from f (some a) g = absurd (f a (says a .0 g))
+
 module _ (s : List ℕ) (all : All (λ b. b < 256) s) where
   -- ---- sheet_write
+  abbrev SheetForm : Sheet → Type 0
+  SheetForm n = T (sheetFits members n) × (formOf n ≡ s)
+
+  sheet-form : (n : Sheet) → (sheetGiven members s ≡ some n) ↔ SheetForm n
+  sheet-form = given-form members (omega arith) s all
+
   -- "The writer takes this form": it answers exactly if the bytes are the numbers form of a sheet within the limits, and then the sheet's normal
   -- bytes; the item is their number.
   pub write-answers : (item : ℕ) (l : List ℕ)
       → (outcomeOf write s ≡ bytes item l) ↔ ((n : Sheet) × T (sheetFits members n) × (formOf n ≡ s) × (l ≡ written n) × (item ≡ length (written n)))
-  write-answers item l = (go (sheetGiven members s) refl, λ (n, t, f, e, i). ap writeOutcome (given-form members (omega arith) s all n .1 (t, f)) ∙ same-answer _ item _ l .1 (e, i))
-    where
-      go : (o : Option Sheet) → sheetGiven members s ≡ o → writeOutcome o ≡ bytes item l → (n : Sheet) × T (sheetFits members n) × (formOf n ≡ s) × (l ≡ written n) × (item ≡ length (written n))
-      go none g q = absurd (value-refused _ 42 0 (sym q))
-      go (some n) g q =
-          let (t, f) = given-form members (omega arith) s all n .0 g in
-          let (e, i) = same-answer (length (written n)) item (written n) l .0 q in
-          (n, t, f, e, i)
+  write-answers item l = Iff·trans (writer-answers written writeOutcome refl (λ n. refl) (sheetGiven members s) SheetForm sheet-form item l) (λ (n, (t, f), e, i). (n, t, f, e, i), λ (n, t, f, e, i). (n, (t, f), e, i))
 
   -- "42: numbers given to the writer break a limit, range or closing, or don't make up a whole sheet", item 0: the bytes are the numbers form of no
   -- sheet within the limits.
   pub write-refuses : (code item : ℕ) → (outcomeOf write s ≡ refused code item) ↔ ((code ≡ 42) × (item ≡ 0) × ((n : Sheet) → T (sheetFits members n) → formOf n ≡ s → ⊥))
-  write-refuses code item = (to (sheetGiven members s) refl, λ (c, i, f). from f (sheetGiven members s) refl ∙ same-refusal {A = Written} 42 0 code item .1 (c, i))
-    where
-      to : (o : Option Sheet) → sheetGiven members s ≡ o → writeOutcome o ≡ refused code item → (code ≡ 42) × (item ≡ 0) × ((n : Sheet) → T (sheetFits members n) → formOf n ≡ s → ⊥)
-      to none g q =
-          let (c, i) = same-refusal {A = Written} 42 0 code item .0 q in
-          (c, i, λ n t f. let e : none ≡ some n = sym g ∙ given-form members (omega arith) s all n .1 (t, f) in let z : _≡_ {A = ℕ} 0 1 = cc e in omega arith)
-      to (some n) g q = absurd (value-refused _ code item q)
+  write-refuses code item = Iff·trans (writer-refuses written writeOutcome refl (λ n. refl) (sheetGiven members s) SheetForm sheet-form code item) (λ (c, i, f). (c, i, λ n t e. f n (t, e)), λ (c, i, f). (c, i, λ n (t, e). f n t e))
 
-      from : ((n : Sheet) → T (sheetFits members n) → formOf n ≡ s → ⊥) → (o : Option Sheet) → sheetGiven members s ≡ o → writeOutcome o ≡ refused 42 0
-      from f none g = refl
-      from f (some n) g = absurd (let (t, e) = given-form members (omega arith) s all n .0 g in f n t e)
+  -- ---- sheet_write_blob
+  abbrev BlobForm : Blob → Type 0
+  BlobForm b = T (sheetFits members (b .sheet)) × (b .number < 2 ^ 32) × (blobForm b ≡ s)
+
+  blob-form : (b : Blob) → (blobGiven members s ≡ some b) ↔ BlobForm b
+  blob-form = given-blob members (omega arith) s all
+
+  -- It answers exactly if the bytes are the numbers form of a blob, a number of 32 bits and a sheet within the limits, and then the blob's normal bytes; the item
+  -- is their number.
+  pub write-blob-answers : (item : ℕ) (l : List ℕ)
+      → (outcomeOf writeBlob s ≡ bytes item l) ↔ ((b : Blob) × T (sheetFits members (b .sheet)) × (b .number < 2 ^ 32) × (blobForm b ≡ s) × (l ≡ writtenBlob b) × (item ≡ length (writtenBlob b)))
+  write-blob-answers item l =
+      Iff·trans (writer-answers writtenBlob writeBlobOutcome refl (λ b. refl) (blobGiven members s) BlobForm blob-form item l) (λ (b, (t, k, f), e, i). (b, t, k, f, e, i), λ (b, t, k, f, e, i). (b, (t, k, f), e, i))
+
+  -- Otherwise 42, item 0: they are the numbers form of no such blob.
+  pub write-blob-refuses : (code item : ℕ)
+      → (outcomeOf writeBlob s ≡ refused code item) ↔ ((code ≡ 42) × (item ≡ 0) × ((b : Blob) → T (sheetFits members (b .sheet)) → b .number < 2 ^ 32 → blobForm b ≡ s → ⊥))
+  write-blob-refuses code item =
+      Iff·trans (writer-refuses writtenBlob writeBlobOutcome refl (λ b. refl) (blobGiven members s) BlobForm blob-form code item) (λ (c, i, f). (c, i, λ b t k e. f b (t, k, e)), λ (c, i, f). (c, i, λ b (t, k, e). f b t k e))
 
 module _ (mode : ℕ) (s : List ℕ) (all : All (λ b. b < 256) s) where
   -- ---- the entries that judge
@@ -148,7 +218,7 @@ module _ (mode : ℕ) (s : List ℕ) (all : All (λ b. b < 256) s) where
         (n, o, h, ap (λ x. bytes (length x) (flatMap setBytes x)) (sym e) ∙ same-answer (length sets) item (flatMap setBytes sets) l .1 (f, i ∙ sym (w .each))),
   )
 
-  -- and is refused exactly as the bytes are before any owner is known: by reading, or with 10, 11, 12 or 20.
+  -- and is refused exactly as the bytes are before any owner is known: by reading, or with 10, 11, 12, 52, 20 or 21.
   pub owner-sets-refuses : (code item : ℕ) → (outcomeOf (ownerSets mode) s ≡ refused code item) ↔ Refused mode s code item
   owner-sets-refuses code item = Iff·trans (refuses-on mode s (goesOn 0 OwnerSets) code item) (
     ⊎-elim (λ r. r) (λ (n, o, h, e). absurd (value-refused _ code item e)),

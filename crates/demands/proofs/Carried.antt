@@ -30,12 +30,14 @@ use Rattle.owners_judge.proofs.Judged.{judging-says as code-says}
 use Rattle.sheet_form.specs.Numbers.{Sheet, members}
 use Rattle.sheet_modes.specs.Modes.{readBy}
 use Rattle.judged.specs.Judged.{Judged, judgedSheet}
-use Rattle.judged.proofs.Stages.{polygons-value, sheet-value, sheet-refused, judged-value, judged-refused}
+use Rattle.judged.proofs.Stages.{polygons-value, sheet-value, sheet-refused, whole-around, judged-value, judged-refused}
 use Rattle.judged.proofs.Repaired.{rules, owners-of}
 use Rattle.demands.specs.Triangles.{NoArea, RepeatsSide, First}
 use Rattle.demands.specs.Polygons.{NoSet, polygon, EachSound, FirstFaulty}
+use Rattle.demands.specs.Answers.{OtherEnvelope}
 use Rattle.demands.proofs.Table.{refused-A, refused-B, refused-C}
-use Rattle.demands.proofs.Stages.{read-low}
+use Rattle.demands.proofs.Stages.{of-reading, not-between}
+use Rattle.demands.proofs.Envelopes.{framed-yes}
 use Rattle.demands.proofs.Order.{is-first, first-no-set, first-no-ground}
 
 -- A table passes exactly if the three table rules hold.
@@ -76,61 +78,64 @@ judging-says table area once m = code-says table m area once
 
 -- ---- whole sheets
 -- The number given with 20 is that of the first polygon that no set of triangles carries, the number given with 21 that of the first without ground, where
--- those before it are refused neither way; and each is given exactly if there is one, in a sheet that is read and whose table passes the rules.
+-- those before it are refused neither way; and each is given exactly if there is one, in a sheet that is read, whose table passes the rules and around which no
+-- envelope is another than the frame.
 pub first-refused : (mode : ℕ) (s : List ℕ) (code k : ℕ) → ((code ≡ 20) ⊎ (code ≡ 21))
-    → (judgedSheet mode s ≡ refused code k) ↔ ((n : Sheet) × (readBy members mode s ≡ value n) × (checkTable (frameEdges (n .table)) (n .table) ≡ value tt)
+    → (judgedSheet mode s ≡ refused code k) ↔ ((n : Sheet) × (readBy members mode s ≡ value n) × (checkTable (frameEdges (n .table)) (n .table) ≡ value tt) × (OtherEnvelope mode s n → ⊥)
     × (((code ≡ 20) × FirstFaulty NoSet (n .table) (n .polygons) k) ⊎ ((code ≡ 21) × FirstFaulty Groundless (n .table) (n .polygons) k)))
 first-refused mode s code k which = (to, from)
   where
-    high : 20 ≤ code
-    high = elim which [ inl e ↦ omega arith | inr e ↦ omega arith ]
+    high : (20 ≤ code) × (code ≤ 21)
+    high = elim which [ inl e ↦ (omega arith, omega arith) | inr e ↦ (omega arith, omega arith) ]
 
-    to : judgedSheet mode s ≡ refused code k → (n : Sheet) × (readBy members mode s ≡ value n) × (checkTable (frameEdges (n .table)) (n .table) ≡ value tt)
+    to : judgedSheet mode s ≡ refused code k → (n : Sheet) × (readBy members mode s ≡ value n) × (checkTable (frameEdges (n .table)) (n .table) ≡ value tt) × (OtherEnvelope mode s n → ⊥)
         × (((code ≡ 20) × FirstFaulty NoSet (n .table) (n .polygons) k) ⊎ ((code ≡ 21) × FirstFaulty Groundless (n .table) (n .polygons) k))
     to e = elim (judged-refused mode s code k .0 e) [
-      | inl r ↦ absurd (elim (read-low mode s code k r) [ inl z ↦ elim which [ inl e ↦ omega arith | inr e ↦ omega arith ] | inr l ↦ omega (arith, high, l) ])
-      | inr (n, p, q) ↦ elim (sheet-refused n code k .0 q) [
-        | inl r ↦ absurd (elim (refused-as (frameEdges (n .table)) (n .table) code k .0 r) [ inl a ↦ omega (arith, a .0, high) | inr (inl b) ↦ omega (arith, b .0, high) | inr (inr c) ↦ omega (arith, c .0, high) ])
-        | inr (r, f) ↦ (n, p, r, is-first (n .table) r (n .polygons) code k f)
+      | inl r ↦ absurd (not-between (of-reading mode s code k r) (omega (arith, high .0)) (omega (arith, high .1)))
+      | inr (n, p, q) ↦ elim (sheet-refused (whole-around mode s n) n code k .0 q) [
+        | inl r ↦ absurd (elim (refused-as (frameEdges (n .table)) (n .table) code k .0 r) [ inl a ↦ omega (arith, a .0, high .0) | inr (inl b) ↦ omega (arith, b .0, high .0) | inr (inr c) ↦ omega (arith, c .0, high .0) ])
+        | inr (inl u) ↦ absurd (omega (arith, u .2, high .1))
+        | inr (inr (r, b, f)) ↦ (n, p, r, framed-yes mode s n .0 b, is-first (n .table) r (n .polygons) code k f)
       ]
     ]
 
-    from : (n : Sheet) × (readBy members mode s ≡ value n) × (checkTable (frameEdges (n .table)) (n .table) ≡ value tt)
+    from : (n : Sheet) × (readBy members mode s ≡ value n) × (checkTable (frameEdges (n .table)) (n .table) ≡ value tt) × (OtherEnvelope mode s n → ⊥)
         × (((code ≡ 20) × FirstFaulty NoSet (n .table) (n .polygons) k) ⊎ ((code ≡ 21) × FirstFaulty Groundless (n .table) (n .polygons) k)) → judgedSheet mode s ≡ refused code k
-    from (n, p, e, f) = judged-refused mode s code k .1 (inr (
+    from (n, p, e, w, f) = judged-refused mode s code k .1 (inr (
       n,
       p,
-      sheet-refused n code k .1 (inr (
+      sheet-refused (whole-around mode s n) n code k .1 (inr (inr (
         e,
+        framed-yes mode s n .1 w,
         elim f [
           | inl (c, g) ↦ first-no-set (n .table) e (n .polygons) k g ∙ ap (λ c. refused c k) (sym c)
           | inr (c, g) ↦ first-no-ground (n .table) e (n .polygons) k g ∙ ap (λ c. refused c k) (sym c)
         ],
-      )),
+      ))),
     ))
 
--- A sheet has owners exactly if it is read, its table passes the rules and each polygon is refused neither way.
+-- A sheet has owners exactly if it is read, its table passes the rules, no envelope around it is another than the frame and each polygon is refused neither way.
 pub all-sound : (mode : ℕ) (s : List ℕ) (n : Sheet)
     → ((owners : List (List ℕ)) × (judgedSheet mode s ≡ value (record { sheet = n; owners = owners })))
-    ↔ ((readBy members mode s ≡ value n) × (checkTable (frameEdges (n .table)) (n .table) ≡ value tt) × EachSound (n .table) (n .polygons))
+    ↔ ((readBy members mode s ≡ value n) × (checkTable (frameEdges (n .table)) (n .table) ≡ value tt) × (OtherEnvelope mode s n → ⊥) × EachSound (n .table) (n .polygons))
 all-sound mode s n = (to, from)
   where
     to : (owners : List (List ℕ)) × (judgedSheet mode s ≡ value (record { sheet = n; owners = owners }))
-        → (readBy members mode s ≡ value n) × (checkTable (frameEdges (n .table)) (n .table) ≡ value tt) × EachSound (n .table) (n .polygons)
+        → (readBy members mode s ≡ value n) × (checkTable (frameEdges (n .table)) (n .table) ≡ value tt) × (OtherEnvelope mode s n → ⊥) × EachSound (n .table) (n .polygons)
     to (owners, e) =
         let j : Judged = record { sheet = n; owners = owners } in
-        let (p, q) = judged-value mode s j .0 e in
-        (p, sheet-value n j .0 q .1, λ k low high. let o = owners-of {j = j} q (k - 1) (omega arith) in ((o .marks, o .of-polygon .of-table, o .of-polygon .carries), o .of-polygon .ground))
+        let (p, q, b) = judged-value mode s j .0 e in
+        (p, sheet-value n j .0 q .1, framed-yes mode s n .0 b, λ k low high. let o = owners-of {j = j} q (k - 1) (omega arith) in ((o .marks, o .of-polygon .of-table, o .of-polygon .carries), o .of-polygon .ground))
 
-    from : (readBy members mode s ≡ value n) × (checkTable (frameEdges (n .table)) (n .table) ≡ value tt) × EachSound (n .table) (n .polygons)
+    from : (readBy members mode s ≡ value n) × (checkTable (frameEdges (n .table)) (n .table) ≡ value tt) × (OtherEnvelope mode s n → ⊥) × EachSound (n .table) (n .polygons)
         → (owners : List (List ℕ)) × (judgedSheet mode s ≡ value (record { sheet = n; owners = owners }))
-    from (p, e, each) = go (judgeFrom (n .table) 1 (n .polygons)) refl
+    from (p, e, w, each) = go (judgeFrom (n .table) 1 (n .polygons)) refl
       where
         go : (o : Answer (List (List Bool))) → judgeFrom (n .table) 1 (n .polygons) ≡ o → (owners : List (List ℕ)) × (judgedSheet mode s ≡ value (record { sheet = n; owners = owners }))
         go (value l) q =
             let owners = ownersFrom (length (n .table)) 1 l in
             let j : Judged = record { sheet = n; owners = owners } in
-            (owners, judged-value mode s j .1 (p, sheet-value n j .1 (refl, e, polygons-value (n .table) (n .polygons) owners .1 (l, q, refl))))
+            (owners, judged-value mode s j .1 (p, sheet-value n j .1 (refl, e, polygons-value (n .table) (n .polygons) owners .1 (l, q, refl)), framed-yes mode s n .1 w))
         go (refused c k) q = absurd (elim (is-first (n .table) e (n .polygons) c k q) [
           | inl (z, f) ↦ let ((t, u, v), g) = each k (f .low) (f .high) in f .fault t u v
           | inr (z, f) ↦ each k (f .low) (f .high) .1 (f .fault)

@@ -5,12 +5,14 @@ pub mod Writing
 pub mod Answers
 pub mod Positions
 pub mod Older
+pub mod Blobs
 pub mod Room
 pub mod Carried
 pub mod Repair
 pub mod Books
 pub mod Examples
 mod Stages
+mod Envelopes
 mod Order
 mod Table
 mod Sets

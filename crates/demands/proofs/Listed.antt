@@ -16,10 +16,10 @@ use Rattle.sheet.proofs.Refusals.{Lawful}
 use Rattle.sheet_form.specs.Numbers.{members}
 use Rattle.sheet_modes.specs.Modes.{readBy}
 use Rattle.demands.specs.Refusals.{Row, alone, rows, inRow, Listed}
-use Rattle.demands.specs.Entries.{Entry, numbers, position, write, ownerSets, owners, boundary, listing, outcomeOf}
-use Rattle.demands.specs.Answers.{Refused, unread, breaks-A, breaks-B, breaks-C, not-carried, no-ground}
+use Rattle.demands.specs.Entries.{Entry, numbers, position, write, writeBlob, ownerSets, owners, boundary, listing, outcomeOf}
+use Rattle.demands.specs.Answers.{Refused, unread, breaks-A, breaks-B, breaks-C, unframed, not-carried, no-ground}
 use Rattle.demands.proofs.Stages.{read-lawful, no-higher, read-limits}
-use Rattle.demands.proofs.Answers.{numbers-refuses, position-refuses-nothing, write-refuses, owner-sets-refuses, owners-refuses, boundary-refuses, listing-refuses-nothing}
+use Rattle.demands.proofs.Answers.{numbers-refuses, position-refuses-nothing, write-refuses, write-blob-refuses, owner-sets-refuses, owners-refuses, boundary-refuses, listing-refuses-nothing}
 
 -- ---- the table
 any-at : {A : Type 0} (p : A → Bool) (d : A) (l : List A) (i : ℕ) → i < length l → T (p (getD l i d)) → T (any p l)
@@ -97,28 +97,33 @@ alone-listed i h e {code} {item} c z = subst (λ n. Listed n item) (sym c) (in-r
 -- ---- from the entries
 module _ (mode : ℕ) (s : List ℕ) (all : All (λ b. b < 256) s) where
   unread-listed : (code item : ℕ) → readBy members mode s ≡ refused code item → Listed code item
-  unread-listed code item e = ⊎-elim (λ (c, i). alone-listed 18 (omega arith) refl c i) (lawful-listed code item) (read-lawful mode s code item e)
+  unread-listed code item e =
+      ⊎-elim (λ (c, i). alone-listed 21 (omega arith) refl c i)
+      (⊎-elim (λ (c, i). ⊎-elim (λ c. alone-listed 17 (omega arith) refl c i) (λ c. alone-listed 18 (omega arith) refl c i) c) (lawful-listed code item))
+      (read-lawful mode s code item e)
 
   refused-listed : {code item : ℕ} → Refused mode s code item → Listed code item
   refused-listed (unread {code} {item} e) = unread-listed code item e
   refused-listed (breaks-A {k} n p f) = in-row 8 k (omega arith) (f .low) (omega (arith, f .high, read-limits mode s all n p .few))
   refused-listed (breaks-B {k} n p a f) = in-row 9 k (omega arith) (f .low) (omega (arith, f .high, read-limits mode s all n p .few))
   refused-listed (breaks-C n p a b c) = in-row 10 0 (omega arith) (omega arith) (omega arith)
-  refused-listed (not-carried {k} n p r f) = in-row 11 k (omega arith) (f .low) (omega (arith, f .high, read-limits mode s all n p .few-polygons))
-  refused-listed (no-ground {k} n p r f) = in-row 12 k (omega arith) (f .low) (omega (arith, f .high, read-limits mode s all n p .few-polygons))
+  refused-listed (unframed n p r w) = in-row 19 0 (omega arith) (omega arith) (omega arith)
+  refused-listed (not-carried {k} n p r w f) = in-row 11 k (omega arith) (f .low) (omega (arith, f .high, read-limits mode s all n p .few-polygons))
+  refused-listed (no-ground {k} n p r w f) = in-row 12 k (omega arith) (f .low) (omega (arith, f .high, read-limits mode s all n p .few-polygons))
 
 -- An entry, in its mode.
 module _ (s : List ℕ) (all : All (λ b. b < 256) s) where
   pub outcome-listed : (e : Entry) (code item : ℕ) → outcomeOf e s ≡ refused code item → Listed code item
-  outcome-listed (numbers mode) code item q = unread-listed mode s all code item (numbers-refuses mode s all code item .0 q)
+  outcome-listed (numbers mode) code item q = ⊎-elim (unread-listed mode s all code item) (λ h. alone-listed 19 (omega arith) refl (h .0) (h .1)) (numbers-refuses mode s all code item .0 q)
   outcome-listed (position mode) code item q = absurd (position-refuses-nothing mode s all code item q)
   outcome-listed write code item q = let (c, i, f) = write-refuses s all code item .0 q in alone-listed 16 (omega arith) refl c i
+  outcome-listed writeBlob code item q = let (c, i, f) = write-blob-refuses s all code item .0 q in alone-listed 16 (omega arith) refl c i
   outcome-listed (ownerSets mode) code item q = refused-listed mode s all (owner-sets-refuses mode s all code item .0 q)
   outcome-listed (owners mode way) code item q =
-      ⊎-elim (refused-listed mode s all) (⊎-elim (λ h. alone-listed 17 (omega arith) refl (h .0) (h .1)) (λ h. alone-listed 13 (omega arith) refl (h .0) (h .1))) (owners-refuses mode s all way code item .0 q)
+      ⊎-elim (refused-listed mode s all) (⊎-elim (λ h. alone-listed 20 (omega arith) refl (h .0) (h .1)) (λ h. alone-listed 13 (omega arith) refl (h .0) (h .1))) (owners-refuses mode s all way code item .0 q)
   outcome-listed (boundary mode way k) code item q =
       ⊎-elim (refused-listed mode s all)
-      (⊎-elim (λ h. alone-listed 15 (omega arith) refl (h .0) (h .1)) (⊎-elim (λ h. alone-listed 17 (omega arith) refl (h .0) (h .1)) (λ h. alone-listed 13 (omega arith) refl (h .0) (h .1))))
+      (⊎-elim (λ h. alone-listed 15 (omega arith) refl (h .0) (h .1)) (⊎-elim (λ h. alone-listed 20 (omega arith) refl (h .0) (h .1)) (λ h. alone-listed 13 (omega arith) refl (h .0) (h .1))))
       (boundary-refuses mode s all way k code item .0 q)
   outcome-listed (listing mode way) code item q = absurd (listing-refuses-nothing mode s all way code item q)
 

@@ -1,8 +1,9 @@
 -- Request No. 10: "the first ring of each polygon is turned round if its double area is negative, every later ring if positive. The caller names it or the present
 -- mode." What holds in every mode is said with the mode in the other files: of demand 3 "the polygon" is there the polygon of the sheet read in the mode. Assumes nothing.
 use mathlib.Core.Path.{_≡_, refl, sym, _∙_, ap}
-use mathlib.Core.Logic.{_↔_, inl, inr, ⊎-elim}
+use mathlib.Core.Logic.{_↔_, inl}
 use mathlib.Core.List.{List, [], _∷_, reverse}
+use mathlib.Core.Option.{none}
 use Prim.Native.Nat.{ℕ, _<_}
 use native.Mathlib.Omega.{arith}
 use lib.Dec.{T}
@@ -27,8 +28,8 @@ use Rattle.sheet_written.specs.Normal.{written}
 use Rattle.sheet_turned.specs.Turned.{turned}
 use Rattle.sheet_turned.proofs.Turned as sheets
 use Rattle.sheet_turned.proofs.Trip.{turned-trip}
-use Rattle.sheet_modes.specs.Modes.{Edition, present, older, readBy}
-use Rattle.sheet_modes.proofs.Modes.{by-value, by-refused, by-present, by-fits, mode-unknown}
+use Rattle.sheet_modes.specs.Modes.{older, plain, readBy}
+use Rattle.sheet_modes.proofs.Modes.{by-refused, in-mode-value, in-mode-refused, by-present, by-fits, mode-unknown}
 
 -- ---- turning
 -- The double area of a ring with its points in reverse order is the negative;
@@ -53,21 +54,15 @@ module _ (s : List ℕ) where
   pub mode-0 : readBy members 0 s ≡ readSheet members s
   mode-0 = by-present members s
 
-  pub mode-unread : (mode : ℕ) → 1 < mode → readBy members mode s ≡ refused 57 0
+  pub mode-unread : (mode : ℕ) → 3 < mode → readBy members mode s ≡ refused 57 0
   mode-unread mode h = by-refused members s mode 57 0 .1 (inl (mode-unknown mode h))
 
   -- Mode 1 is the turning of what mode 0 reads, and is refused as mode 0 is.
   pub mode-1 : (n : Sheet) → (readBy members 1 s ≡ value n) ↔ ((m : Sheet) × (readSheet members s ≡ value m) × (turned m ≡ n))
-  mode-1 n = (
-    λ e. let (edition, known, m, r, t) = by-value members s 1 n .0 e in let o : older ≡ edition = cc known in (m, r, rw (← o) at t),
-    λ (m, r, t). by-value members s 1 n .1 (older, refl, m, r, t),
-  )
+  mode-1 n = in-mode-value members s 1 (record { form = plain; edition = older }) none refl refl n
 
   pub mode-1-refused : (code item : ℕ) → (readBy members 1 s ≡ refused code item) ↔ (readSheet members s ≡ refused code item)
-  mode-1-refused code item = (
-    λ e. ⊎-elim (λ p. absurd (let z : _≡_ {A = ℕ} 0 1 = cc p in omega arith)) (λ (edition, p, r). r) (by-refused members s 1 code item .0 e),
-    λ r. by-refused members s 1 code item .1 (inr (older, refl, r)),
-  )
+  mode-1-refused code item = in-mode-refused members s 1 (record { form = plain; edition = older }) none refl refl code item
 
   -- What is read in any mode is within the limits.
   pub within-limits : All (λ b. b < 256) s → (mode : ℕ) (n : Sheet) → readBy members mode s ≡ value n → T (sheetFits members n)

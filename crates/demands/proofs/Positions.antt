@@ -3,19 +3,20 @@
 use mathlib.Core.Path.{_≡_, refl, sym, _∙_, ap, ap₂, subst}
 use mathlib.Core.Logic.{_↔_, _⊎_, inl, inr, ⊎-elim}
 use mathlib.Core.Bool.{Bool, true, false}
-use mathlib.Core.List.{List}
+use mathlib.Core.List.{List, _++_}
+use mathlib.Core.Option.{Option, none, some, Option·none-ne-some}
 use Prim.Native.Nat.{ℕ, _+_, _*_, _≤_, _<_}
 use native.Mathlib.Omega.{arith}
-use borrow.Author.Tests.{eqb-true, eqb-false, le-leb}
+use borrow.Author.Tests.{eqb-true, eqb-false, ne-eqb, le-leb}
 use lib.Dec.{eqb}
-use lib.ListN.{length, take}
+use lib.ListN.{length, take, length-drop}
 use Rattle.whole.specs.Sums.{All}
 use Rattle.whole.proofs.Sums.{all-take}
 use Rattle.wkb.specs.declared.Cursor.{Cursor}
 use Rattle.wkb.specs.declared.Step.the-variants.{Refused as StepRefused}
 use Rattle.wkb.specs.Steps.{stepAt, toldAt}
-use Rattle.wkb.specs.Faults.{Fault, itemAt}
-use Rattle.lent.specs.Stages.{Answer, value, refused, andThen}
+use Rattle.wkb.specs.Faults.{Fault as StepFault, itemAt}
+use Rattle.lent.specs.Stages.{value, refused}
 use Rattle.lent.proofs.Stages.{value-refused, same-refusal}
 use Rattle.lent.specs.Answered.{Outcome, answerOf}
 use Rattle.sheet_form.specs.Numbers.{Sheet, members}
@@ -24,17 +25,26 @@ use Rattle.sheet.specs.Read.{readSheet}
 use Rattle.sheet.proofs.Run
 use Rattle.sheet_positions.specs.Faults.{FaultIn}
 use Rattle.sheet_positions.proofs.Steps as steps
-use Rattle.sheet_positions.proofs.Exactly.{EndsWith, refused-exactly, read-nowhere, within-bytes}
+use Rattle.sheet_positions.proofs.Exactly.{EndsWith, refused-exactly, within-bytes}
 use Rattle.sheet_positions.proofs.Front.{front-read}
-use Rattle.sheet_written.proofs.Held.{read-refused, read-sheet-is, read-held}
-use Rattle.sheet_modes.specs.Modes.{Edition, editionOf, readBy, positionIn}
-use Rattle.sheet_modes.proofs.Modes.{by-value, by-refused, mode-refused}
-use Rattle.outcomes.specs.Entries.{formOf, formOutcome, withRoom, telling, sheetPosition}
-use Rattle.outcomes.proofs.Position.{position-unknown}
-use Rattle.demands.specs.Answers.{Refused, unread, breaks-A, breaks-B, breaks-C, not-carried, no-ground}
-use Rattle.demands.specs.Positions.{NextAfter, Enough, ReadsSheet}
-use Rattle.demands.specs.Entries.{Entry, numbers, position, write, ownerSets, owners, boundary, listing, outcomeOf}
-use Rattle.demands.proofs.Answers.{numbers-refuses, owner-sets-refuses, owners-refuses, boundary-refuses}
+use Rattle.sheet_written.proofs.Held.{read-refused, read-held}
+use Rattle.sheet_blob.specs.declared.Opened.{Opened}
+use Rattle.sheet_blob.specs.declared.Opening.{Opening}
+use Rattle.sheet_blob.specs.declared.Opening.the-variants.{Read, Refused as HeaderRefused}
+use Rattle.sheet_blob.specs.Opening.{openingOf}
+use Rattle.sheet_blob.specs.Faults.{Fault}
+use Rattle.sheet_blob.proofs.Refusals.{begins-within}
+use Rattle.sheet_blob.proofs.Refusals.{refused-exactly as header-refused}
+use Rattle.sheet_modes.specs.Modes.{Form, plain, blob, Mode, modeOf, headed, around, behind, begins, headerBy, readBy, positionIn}
+use Rattle.sheet_modes.proofs.Modes.{all-behind, by-refused, in-mode-refused, mode-unknown}
+use Rattle.sheet_modes.proofs.Outcome.{position-behind, position-of-header}
+use Rattle.outcomes.specs.Entries.{firstOf, formOf, withRoom, telling, sheetPosition}
+use Rattle.outcomes.proofs.Position.{position-refused, nowhere}
+use Rattle.demands.specs.Answers.{OtherEnvelope, Refused, unread, breaks-A, breaks-B, breaks-C, unframed, not-carried, no-ground}
+use Rattle.demands.specs.Positions.{NextAfter, Enough, OfReading, ReadsSheet}
+use Rattle.demands.specs.Entries.{Entry, numbers, position, write, writeBlob, ownerSets, owners, boundary, listing, outcomeOf}
+use Rattle.demands.proofs.Stages.{not-between, not-above, read-opened}
+use Rattle.demands.proofs.Answers.{numbers-answers, numbers-refuses, owner-sets-refuses, owners-refuses, boundary-refuses}
 
 -- ---- a step
 -- A step tells the place that it began at,
@@ -47,7 +57,7 @@ next-place s c = Run.step-moved s c
 
 -- and it is refused exactly if a field is at fault there: with the fault's code and the byte that the field begins at, the code's item, and the same place.
 pub step-refused : (s : List ℕ) (c : Cursor) (code item field : ℕ) (d : Cursor)
-    → (toldAt s c .step ≡ StepRefused code item field d) ↔ (Fault s c code field × (item ≡ itemAt code c) × (d ≡ c))
+    → (toldAt s c .step ≡ StepRefused code item field d) ↔ (StepFault s c code field × (item ≡ itemAt code c) × (d ≡ c))
 step-refused = steps.refused-exactly
 
 -- ---- the bytes of a sheet
@@ -89,59 +99,98 @@ module _ (s : List ℕ) (all : All (λ b. b < 256) s) where
       let (n, h, r) = read-held members (omega arith) (take at s) (all-take (λ b. b < 256) at s all) c in
       (n, r)
 
-  -- ---- "The packed answer stays; the position, 0 for any other answer, comes from a second entry that agrees with it on code and item for every input."
-  -- What is told of bytes at fault in a known mode,
-  pub tells-fault : (mode : ℕ) (edition : Edition) → editionOf mode ≡ value edition → (code item position : ℕ) → FaultIn members s code item position → sheetPosition mode s ≡ telling (item * 256 + code) position
-  tells-fault mode edition known code item at f =
-      let r = by-refused members s mode code item .1 (inr (edition, known, refused-where code item .1 (at, f))) in
-      ap₂ telling (ap (λ (a : Answer Sheet). withRoom (andThen a formOutcome)) r) (ap (λ a. positionIn a s) known ∙ refused-exactly members s code item at .1 f .0 .position-is)
+-- Behind a header its position is counted from the first byte of the blob, and is never beyond the bytes either.
+pub in-the-blob : (s : List ℕ) (form : Form) (o : Option Opened) → around form s ≡ value o → (code item position : ℕ) → FaultIn members (behind o s) code item position → begins o + position ≤ length s
+in-the-blob s form o is code item at f = go form o is (within-bytes members (behind o s) code item at f)
+  where
+    go : (form : Form) (o : Option Opened) → around form s ≡ value o → at ≤ length (behind o s) → begins o + at ≤ length s
+    go plain none e h = omega (arith, h)
+    go plain (some r) e h = absurd (Option·none-ne-some r (cc e))
+    go blob none e h = absurd (no-header (openingOf s) e)
+      where
+        no-header : (t : Opening) → headed t ≡ value none → ⊥
+        no-header (Read r) e = Option·none-ne-some r (sym (cc e))
+        no-header (HeaderRefused c p) e = value-refused _ c 0 (sym e)
+    go blob (some r) e h = omega (arith, length-drop (r .at) s, begins-within s r (read-opened s r e) .1)
 
-  -- and of a sheet that is read;
-  pub tells-read : (mode : ℕ) (n : Sheet) → readBy members mode s ≡ value n → sheetPosition mode s ≡ telling (length (formOf n) * 256) 0
-  tells-read mode n r =
-      let (edition, known, m, p, t) = by-value members s mode n .0 r in
-      ap₂ telling (ap (λ (a : Answer Sheet). withRoom (andThen a formOutcome)) r) (ap (λ a. positionIn a s) known ∙ read-nowhere members s (read-sheet-is members s m .0 p .0))
+-- ---- "The packed answer stays; the position, 0 for any other answer, comes from a second entry that agrees with it on code and item for every input."
+module _ (s : List ℕ) (all : All (λ b. b < 256) s) (mode : ℕ) where
+  module _ (m : Mode) (known : modeOf mode ≡ value m) where
+    -- What is told of a sheet at fault, behind what stands around it in a known mode;
+    pub tells-fault : (o : Option Opened) → around (m .form) s ≡ value o → (code item position : ℕ) → FaultIn members (behind o s) code item position → sheetPosition mode s ≡ telling (item * 256 + code) (begins o + position)
+    tells-fault o is code item at f =
+        let t = behind o s in
+        let bytes = all-behind (λ b. b < 256) o s all in
+        let (e, n) = refused-exactly members t code item at .1 f in
+        let z = ne-eqb (readingOf members t .code) 0 (λ k. n (sym (e .code-is) ∙ k)) in
+        position-refused mode s code item (begins o + at) (in-mode-refused members s mode m o known is code item .1 (refused-where t bytes code item .1 (at, f)))
+        (ap (λ p. begins o + p) (sym (e .position-is)) ∙ sym (position-behind mode s m known o is z))
 
--- in an unknown mode it is 57, and no position.
-pub tells-mode : (mode : ℕ) (s : List ℕ) → 1 < mode → sheetPosition mode s ≡ telling 57 0
-tells-mode = position-unknown
+    -- of a blob's header at fault: 1 with the position of its field, 50 and 51 with 0;
+    pub tells-header : m .form ≡ blob → (code at : ℕ) → Fault s code at → sheetPosition mode s ≡ telling code at
+    tells-header f code at h =
+        let (r, p) = position-of-header mode s m known f code at (header-refused s code at .1 h) in
+        let z : 0 * 256 + code ≡ code = omega arith in
+        position-refused mode s code 0 at (by-refused members s mode code 0 .1 (inr (m, known, inl r))) (sym p) ∙ ap (λ c. telling c at) z
+
+  -- of a sheet that is read, with no envelope around it that is another than the frame;
+  pub tells-read : (n : Sheet) → readBy members mode s ≡ value n → (OtherEnvelope mode s n → ⊥) → sheetPosition mode s ≡ telling (length (firstOf (headerBy mode s) ++ formOf n) * 256) 0
+  tells-read n r o = ap₂ telling (ap withRoom (numbers-answers mode s all _ _ .1 (n, r, o, refl, refl))) (nowhere mode s n r)
+
+  -- of one with such an envelope: 52, and no position;
+  pub tells-envelope : (n : Sheet) → readBy members mode s ≡ value n → OtherEnvelope mode s n → sheetPosition mode s ≡ telling 52 0
+  tells-envelope n r o = ap₂ telling (ap withRoom (numbers-refuses mode s all 52 0 .1 (inr (refl, refl, n, r, o)))) (nowhere mode s n r)
+
+  -- in an unknown mode it is 57, and no position.
+  pub tells-mode : 3 < mode → sheetPosition mode s ≡ telling 57 0
+  tells-mode h = position-refused mode s 57 0 0 (by-refused members s mode 57 0 .1 (inl (mode-unknown mode h))) (sym (ap (λ a. positionIn a s) (mode-unknown mode h)))
 
 -- The number told is the one that the numbers entry answers where enough bytes are lent.
 pub agrees : (o : Outcome) (lent : List ℕ) → Enough o lent → answerOf o lent ≡ withRoom o
 agrees (value w) lent h = rw (le-leb (length (w .text)) (length lent) h)
 agrees (refused code item) lent h = refl
 
--- ---- the other entries that read a sheet are refused with codes 1 to 8 as reading in their mode is
-module _ (mode : ℕ) (s : List ℕ) (all : All (λ b. b < 256) s) (code item : ℕ) (low : code ≤ 8) where
-  by-reading : {c i : ℕ} → Refused mode s c i → c ≤ 8 → readBy members mode s ≡ refused c i
+-- ---- the other entries that read a sheet are refused with the codes of reading as reading in their mode is
+module _ (mode : ℕ) (s : List ℕ) (all : All (λ b. b < 256) s) (code item : ℕ) (of : OfReading code) where
+  by-reading : {c i : ℕ} → Refused mode s c i → OfReading c → readBy members mode s ≡ refused c i
   by-reading (unread e) l = e
-  by-reading (breaks-A n p f) l = absurd (omega arith)
-  by-reading (breaks-B n p a f) l = absurd (omega arith)
-  by-reading (breaks-C n p a b c) l = absurd (omega arith)
-  by-reading (not-carried n p r f) l = absurd (omega arith)
-  by-reading (no-ground n p r f) l = absurd (omega arith)
+  by-reading (breaks-A n p f) l = absurd (not-between l (omega arith) (omega arith))
+  by-reading (breaks-B n p a f) l = absurd (not-between l (omega arith) (omega arith))
+  by-reading (breaks-C n p a b c) l = absurd (not-between l (omega arith) (omega arith))
+  by-reading (unframed n p r w) l = absurd (not-above l (omega arith) (omega arith))
+  by-reading (not-carried n p r w f) l = absurd (not-between l (omega arith) (omega arith))
+  by-reading (no-ground n p r w f) l = absurd (not-between l (omega arith) (omega arith))
+
+  -- 30, 41, 52 and 54 are no codes of reading.
+  low-other : (c : ℕ) → 9 ≤ c → c ≤ 49 → {X : Type 0} → code ≡ c → X
+  low-other c a b e = absurd (not-between of (omega arith) (omega arith))
+
+  high-other : (c : ℕ) → 52 ≤ c → c ≤ 56 → {X : Type 0} → code ≡ c → X
+  high-other c a b e = absurd (not-above of (omega arith) (omega arith))
 
   pub same-in-all : (e : Entry) → ReadsSheet mode e → (outcomeOf e s ≡ refused code item) ↔ (readBy members mode s ≡ refused code item)
-  same-in-all (numbers m) r = subst (λ k. (outcomeOf (numbers k) s ≡ refused code item) ↔ (readBy members mode s ≡ refused code item)) (sym r) (numbers-refuses mode s all code item)
+  same-in-all (numbers m) r = subst (λ k. (outcomeOf (numbers k) s ≡ refused code item) ↔ (readBy members mode s ≡ refused code item)) (sym r) (
+    λ q. ⊎-elim (λ e. e) (λ h. high-other 52 (omega arith) (omega arith) (h .0)) (numbers-refuses mode s all code item .0 q),
+    λ e. numbers-refuses mode s all code item .1 (inl e),
+  )
   same-in-all (position m) r = absurd r
   same-in-all write r = absurd r
+  same-in-all writeBlob r = absurd r
   same-in-all (ownerSets m) r = subst (λ k. (outcomeOf (ownerSets k) s ≡ refused code item) ↔ (readBy members mode s ≡ refused code item)) (sym r) (
-    λ q. by-reading (owner-sets-refuses mode s all code item .0 q) low,
+    λ q. by-reading (owner-sets-refuses mode s all code item .0 q) of,
     λ e. owner-sets-refuses mode s all code item .1 (unread e),
   )
   same-in-all (owners m way) r = subst (λ k. (outcomeOf (owners k way) s ≡ refused code item) ↔ (readBy members mode s ≡ refused code item)) (sym r) (
-    λ q. by-reading (⊎-elim (λ f. f) (⊎-elim (λ h. absurd (omega (arith, h .0))) (λ h. absurd (omega (arith, h .0)))) (owners-refuses mode s all way code item .0 q)) low,
+    λ q. by-reading (⊎-elim (λ f. f) (⊎-elim (λ h. high-other 54 (omega arith) (omega arith) (h .0)) (λ h. low-other 30 (omega arith) (omega arith) (h .0))) (owners-refuses mode s all way code item .0 q)) of,
     λ e. owners-refuses mode s all way code item .1 (inl (unread e)),
   )
   same-in-all (boundary m way k) r = subst (λ z. (outcomeOf (boundary z way k) s ≡ refused code item) ↔ (readBy members mode s ≡ refused code item)) (sym r) (
-    λ q. by-reading (⊎-elim (λ f. f) (⊎-elim (λ h. absurd (omega (arith, h .0))) (⊎-elim (λ h. absurd (omega (arith, h .0))) (λ h. absurd (omega (arith, h .0))))) (boundary-refuses mode s all way k code item .0 q)) low,
+    λ q. by-reading (⊎-elim (λ f. f) (⊎-elim (λ h. low-other 41 (omega arith) (omega arith) (h .0)) (⊎-elim (λ h. high-other 54 (omega arith) (omega arith) (h .0)) (λ h. low-other 30 (omega arith) (omega arith) (h .0)))) (boundary-refuses mode s all way k code item .0 q)) of,
     λ e. boundary-refuses mode s all way k code item .1 (inl (unread e)),
   )
   same-in-all (listing m way) r = absurd r
 
-  -- and the modes that are known read with the same refusals.
-  pub same-in-modes : (edition : Edition) → editionOf mode ≡ value edition → (readBy members mode s ≡ refused code item) ↔ (readSheet members s ≡ refused code item)
-  same-in-modes edition known = (
-    λ e. ⊎-elim (λ p. absurd (omega (arith, mode-refused mode code item p .0))) (λ (i, p, r). r) (by-refused members s mode code item .0 e),
-    λ r. by-refused members s mode code item .1 (inr (edition, known, r)),
-  )
+-- And in a known mode, behind what stands around the sheet, reading is refused as document 01's is.
+pub same-in-modes : (mode : ℕ) (s : List ℕ) (m : Mode) (o : Option Opened) → modeOf mode ≡ value m → around (m .form) s ≡ value o
+    → (code item : ℕ) → (readBy members mode s ≡ refused code item) ↔ (readSheet members (behind o s) ≡ refused code item)
+same-in-modes mode s = in-mode-refused members s mode

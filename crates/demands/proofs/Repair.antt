@@ -27,7 +27,8 @@ use Rattle.sheet_form.specs.Numbers.{members}
 use Rattle.sheet.specs.Reading.{readingOf}
 use Rattle.sheet.specs.Held.{SheetHeld}
 use Rattle.sheet_written.specs.Normal.{written}
-use Rattle.judged.specs.Judged.{Judged, judgeSheet, judgedSheet, repairOf}
+use Rattle.judged.specs.Judged.{Judged, judgedSheet, repairOf}
+use Rattle.judged.specs.Held.{judgeSheet}
 use Rattle.judged.proofs.Stages.{judged-value}
 use Rattle.judged.proofs.Repaired
 use Rattle.judged.proofs.Ways

@@ -3,14 +3,16 @@
 use mathlib.Core.Path.{_≡_, refl, sym, _∙_, ap}
 use mathlib.Core.Logic.{_↔_, inl, inr, ⊎-elim}
 use mathlib.Core.Bool.{Bool, true, false, cond}
-use mathlib.Core.List.{List, [], _∷_, flatMap}
-use Prim.Native.Nat.{ℕ, _*_, _%_, _≤_, _<_}
+use mathlib.Core.List.{List, [], _∷_, _++_, flatMap}
+use mathlib.Core.Option.{Option, none, some}
+use Prim.Native.Nat.{ℕ, zero, suc, _+_, _*_, _%_, _≤_, _<_}
 use native.Mathlib.Omega.{arith}
-use borrow.Author.Tests.{leb-true, leb-false}
+use borrow.Author.Tests.{leb-true, leb-false, lt-leb}
 use lib.Dec.{leb}
 use lib.IntN.{pos}
 use lib.ListN.{length, length-append}
 use Rattle.whole.specs.Sums.{All}
+use Rattle.whole.proofs.Sums.{all-++}
 use Rattle.plane.specs.Points.{Edge}
 use Rattle.lent.specs.Stages.{value, refused}
 use Rattle.lent.specs.Answered.{Outcome, bytes, answerOf, Answered}
@@ -18,9 +20,14 @@ use Rattle.lent.proofs.Stages.{value-refused}
 use Rattle.lent_little.specs.Ordered.{bytes as bytesOf}
 use Rattle.lent_little.specs.Bytes.{setBytes, sideBytes}
 use Rattle.lent_little.proofs.Bytes.{set-length, all-length}
+use Rattle.lent_little.proofs.Ordered.{length-bytes, bytes-below}
 use Rattle.sheet_form.specs.Numbers.{numbersOf, members}
 use Rattle.listing_lines.specs.Lines.{refusedWord}
-use Rattle.sheet_modes.specs.Modes.{readBy}
+use Rattle.sheet_blob.specs.declared.Opened.{Opened}
+use Rattle.sheet_blob_written.specs.Normal.{Blob, writtenBlob, openedOf}
+use Rattle.sheet_blob_written.specs.Given.{blobForm}
+use Rattle.sheet_blob_written.proofs.Trip.{blob-length, blob-bytes}
+use Rattle.sheet_modes.specs.Modes.{present, headerBy, readBy}
 use Rattle.sheet_modes.proofs.Modes.{by-present, by-fits}
 use Rattle.sheet_written.specs.Normal.{written}
 use Rattle.sheet_written.proofs.Given.{form-length, form-bytes}
@@ -28,15 +35,27 @@ use Rattle.sheet_written.proofs.Held.{read-sheet-is}
 use Rattle.sheet_written.proofs.Largest.{largest, largest-fits, largest-numbers, largest-written}
 use Rattle.sheet_written.proofs.Sized.{written-small}
 use Rattle.sheet_written.proofs.Trip.{written-bytes, round-trip, form-small}
-use Rattle.outcomes.specs.Entries.{formOf, ownedSides}
+use Rattle.outcomes.specs.Entries.{firstOf, formOf, ownedSides}
 use Rattle.outcomes.proofs.Sized.{line-most, listing-most, sides-most}
-use Rattle.demands.specs.Answers.{Refused, unread, breaks-A, breaks-B, breaks-C, not-carried, no-ground}
-use Rattle.demands.specs.Entries.{Entry, numbers, position, write, ownerSets, owners, boundary, listing, outcomeOf, roomOf}
-use Rattle.demands.proofs.Stages.{read-low, read-limits}
+use Rattle.demands.specs.Answers.{Refused, unread, breaks-A, breaks-B, breaks-C, unframed, not-carried, no-ground}
+use Rattle.demands.specs.Entries.{Entry, numbers, position, write, writeBlob, ownerSets, owners, boundary, listing, outcomeOf, roomOf}
+use Rattle.demands.proofs.Stages.{of-reading, not-between, read-limits}
+use Rattle.demands.proofs.Envelopes.{no-envelope}
 use Rattle.demands.proofs.Sets.{with-owners, owners-each}
 use Rattle.demands.proofs.After.{same-answer}
+use Rattle.demands.proofs.Blobs.{header-back, sheet-back, never-52}
 use Rattle.demands.proofs.Listed.{code-fits, outcome-listed}
-use Rattle.demands.proofs.Answers.{numbers-answers, numbers-refuses, position-answers, position-refuses-nothing, write-answers, write-refuses, owner-sets-answers, owner-sets-refuses, owners-answers, owners-refuses, boundary-answers, boundary-refuses, listing-answers, listing-refuses-nothing}
+use Rattle.demands.proofs.Answers.{numbers-answers, numbers-refuses, position-answers, position-refuses-nothing, write-answers, write-refuses, write-blob-answers, write-blob-refuses, owner-sets-answers, owner-sets-refuses, owners-answers, owners-refuses, boundary-answers, boundary-refuses, listing-answers, listing-refuses-nothing}
+
+-- The number in front of a blob's numbers has 4 bytes, and in front of a sheet's there is none.
+first-length : (mode : ℕ) (s : List ℕ) → 65_800 + length (firstOf (headerBy mode s)) ≤ roomOf (numbers mode)
+first-length zero s = omega arith
+first-length (suc zero) s = omega arith
+first-length (suc (suc mode)) s = rw (lt-leb (suc (suc mode)) 1 (omega arith)) (go (headerBy (suc (suc mode)) s))
+  where
+    go : (o : Option Opened) → 65_800 + length (firstOf o) ≤ 65_804
+    go none = omega arith
+    go (some r) = omega (arith, length-bytes 4 (r .number))
 
 -- The bytes of sides, 16 each.
 sides-length : (l : List Edge) → length (flatMap sideBytes l) ≡ 16 * length l
@@ -47,21 +66,23 @@ sides-length (e ∷ l) = omega (arith, length-append (sideBytes e) (flatMap side
 module _ (mode : ℕ) (s : List ℕ) (all : All (λ b. b < 256) s) where
   -- ---- no entry comes to 40
   unread-other : (code item : ℕ) → readBy members mode s ≡ refused code item → code ≡ 40 → ⊥
-  unread-other code item e z = elim (read-low mode s code item e) [ inl c ↦ omega arith | inr l ↦ omega arith ]
+  unread-other code item e z = not-between (of-reading mode s code item e) (omega arith) (omega arith)
 
   refused-other : {code item : ℕ} → Refused mode s code item → code ≡ 40 → ⊥
   refused-other (unread {code} {item} e) z = unread-other code item e z
   refused-other (breaks-A n p f) z = omega arith
   refused-other (breaks-B n p a f) z = omega arith
   refused-other (breaks-C n p a b c) z = omega arith
-  refused-other (not-carried n p r f) z = omega arith
-  refused-other (no-ground n p r f) z = omega arith
+  refused-other (unframed n p r w) z = omega arith
+  refused-other (not-carried n p r w f) z = omega arith
+  refused-other (no-ground n p r w f) z = omega arith
 
 module _ (s : List ℕ) (all : All (λ b. b < 256) s) where
   not-forty : (e : Entry) (code item : ℕ) → outcomeOf e s ≡ refused code item → code ≡ 40 → ⊥
-  not-forty (numbers mode) code item q z = unread-other mode s all code item (numbers-refuses mode s all code item .0 q) z
+  not-forty (numbers mode) code item q z = ⊎-elim (λ p. unread-other mode s all code item p z) (λ h. omega (arith, h .0)) (numbers-refuses mode s all code item .0 q)
   not-forty (position mode) code item q z = position-refuses-nothing mode s all code item q
   not-forty write code item q z = omega (arith, write-refuses s all code item .0 q .0)
+  not-forty writeBlob code item q z = omega (arith, write-blob-refuses s all code item .0 q .0)
   not-forty (ownerSets mode) code item q z = refused-other mode s all (owner-sets-refuses mode s all code item .0 q) z
   not-forty (owners mode way) code item q z = ⊎-elim (λ r. refused-other mode s all r z) (⊎-elim (λ h. omega (arith, h .0)) (λ h. omega (arith, h .0))) (owners-refuses mode s all way code item .0 q)
   not-forty (boundary mode way k) code item q z =
@@ -71,10 +92,12 @@ module _ (s : List ℕ) (all : All (λ b. b < 256) s) where
   -- ---- how long the answers are at most
   pub fits : (e : Entry) (item : ℕ) (l : List ℕ) → outcomeOf e s ≡ bytes item l → length l ≤ roomOf e
   fits (numbers mode) item l q =
-      let (n, r, e, i) = numbers-answers mode s all item l .0 q in
-      omega (arith, ap length e, form-length (numbersOf n), form-small members (omega arith) n (by-fits members s (omega arith) all mode n r))
+      let (n, r, o, e, i) = numbers-answers mode s all item l .0 q in
+      let first = firstOf (headerBy mode s) in
+      omega (arith, ap length e, length-append first (formOf n), first-length mode s, form-length (numbersOf n), form-small members (omega arith) n (by-fits members s (omega arith) all mode n r))
   fits (position mode) item l q = omega (arith, position-answers mode s all item l q .1)
   fits write item l q = let (n, t, f, e, i) = write-answers s all item l .0 q in omega (arith, ap length e, written-small members n t)
+  fits writeBlob item l q = let (b, t, k, f, e, i) = write-blob-answers s all item l .0 q in omega (arith, ap length e, blob-length b, written-small members (b .sheet) t)
   fits (ownerSets mode) item l q =
       let (n, sets, h, e, i) = owner-sets-answers mode s all item l .0 q in
       omega (arith, ap length e, all-length 8 setBytes set-length sets, h .each, read-limits mode s all n (h .read) .few)
@@ -111,13 +134,35 @@ module _ (s : List ℕ) (all : All (λ b. b < 256) s) where
     pub room-enough : roomOf e ≤ length before → r % 256 ≡ 40 → ⊥
     room-enough h z = let (item, l, q, m) = too-long .0 z in omega (arith, fits e item l q)
 
--- The rooms of the numbers entry and of the writer are the least: some answer is as long.
+-- The rooms of the numbers entry and of the writers are the least: some answer is as long.
 pub least-numbers : (s : List ℕ) × All (λ b. b < 256) s × (item : ℕ) × (l : List ℕ) × (outcomeOf (numbers 0) s ≡ bytes item l) × (length l ≡ roomOf (numbers 0))
 least-numbers =
     let r = read-sheet-is members (written largest) largest .1 (round-trip members (omega arith) largest largest-fits) in
-    (written largest, written-bytes largest, _, _, numbers-answers 0 (written largest) (written-bytes largest) _ _ .1 (largest, by-present members (written largest) ∙ r, refl, refl), omega (arith, form-length (numbersOf largest), largest-numbers))
+    (written largest, written-bytes largest, _, _, numbers-answers 0 (written largest) (written-bytes largest) _ _ .1 (largest, by-present members (written largest) ∙ r, no-envelope 0 (omega arith) (written largest) largest, refl, refl), omega (arith, form-length (numbersOf largest), largest-numbers))
 
 pub least-write : (s : List ℕ) × All (λ b. b < 256) s × (item : ℕ) × (l : List ℕ) × (outcomeOf write s ≡ bytes item l) × (length l ≡ roomOf write)
 least-write =
     let b = form-bytes (numbersOf largest) in
     (formOf largest, b, _, _, write-answers (formOf largest) b _ _ .1 (largest, largest-fits, refl, refl, refl), largest-written)
+
+-- And so are those for blobs.
+abbrev largest-blob : Blob
+largest-blob = record { number = 0; sheet = largest }
+
+pub least-blob-numbers : (s : List ℕ) × All (λ b. b < 256) s × (item : ℕ) × (l : List ℕ) × (outcomeOf (numbers 2) s ≡ bytes item l) × (length l ≡ roomOf (numbers 2))
+least-blob-numbers =
+    let b = largest-blob in
+    let h = header-back b (omega arith) largest-fits 2 present refl in (
+      writtenBlob b,
+      blob-bytes b,
+      _,
+      _,
+      numbers-answers 2 (writtenBlob b) (blob-bytes b) _ _ .1 (largest, sheet-back b (omega arith) largest-fits 2 present refl, never-52 b (omega arith) largest-fits 2 present refl, refl, refl),
+      omega (arith, ap (λ o. length (firstOf o ++ formOf largest)) h, length-append (firstOf (some (openedOf b))) (formOf largest), length-bytes 4 0, form-length (numbersOf largest), largest-numbers),
+    )
+
+pub least-write-blob : (s : List ℕ) × All (λ b. b < 256) s × (item : ℕ) × (l : List ℕ) × (outcomeOf writeBlob s ≡ bytes item l) × (length l ≡ roomOf writeBlob)
+least-write-blob =
+    let b = largest-blob in
+    let all = all-++ (λ x. x < 256) (bytesOf 4 0) (formOf largest) (bytes-below 4 0) (form-bytes (numbersOf largest)) in
+    (blobForm b, all, _, _, write-blob-answers (blobForm b) all _ _ .1 (b, largest-fits, omega arith, refl, refl, refl), omega (arith, blob-length b, largest-written))

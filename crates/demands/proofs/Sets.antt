@@ -31,11 +31,12 @@ use Rattle.sheet_form.specs.Numbers.{Sheet, members}
 use Rattle.sheet_modes.specs.Modes.{readBy}
 use Rattle.judged.specs.Judged.{Judged, judgedSheet}
 use Rattle.judged.proofs.Repaired.{owners-many}
-use Rattle.judged.proofs.Stages.{polygons-value, sheet-value, sheet-refused, judged-value, judged-refused}
+use Rattle.judged.proofs.Stages.{polygons-value, sheet-value, sheet-refused, whole-around, judged-value, judged-refused}
 use Rattle.demands.specs.Polygons.{polygon}
-use Rattle.demands.specs.Answers.{HasOwners, HasSets, Refused, unread, breaks-A, breaks-B, breaks-C, not-carried, no-ground}
+use Rattle.demands.specs.Answers.{HasOwners, HasSets, Refused, unread, breaks-A, breaks-B, breaks-C, unframed, not-carried, no-ground}
 use Rattle.demands.proofs.Table.{refused-A, refused-B, refused-C}
 use Rattle.demands.proofs.Order.{is-first}
+use Rattle.demands.proofs.Envelopes.{framed-no, framed-yes}
 use Rattle.demands.proofs.Carried.{first-refused, all-sound}
 
 -- A sheet with the owners of its triangles.
@@ -64,7 +65,7 @@ module _ (mode : ℕ) (s : List ℕ) where
     where
       to : judgedSheet mode s ≡ value (with-owners n owners) → HasOwners mode s n owners
       to e =
-          let (p, q) = judged-value mode s (with-owners n owners) .0 e in
+          let (p, q, b) = judged-value mode s (with-owners n owners) .0 e in
           let (i, c, o) = sheet-value n (with-owners n owners) .0 q in
           let (l, f, g) = polygons-value (n .table) (n .polygons) owners .0 o in
           let r = passes (frameEdges (n .table)) (n .table) .0 c in
@@ -72,6 +73,7 @@ module _ (mode : ℕ) (s : List ℕ) where
           record {
             read = p;
             passes = r;
+            framed = framed-yes mode s n .0 b;
             sets = l;
             as-many = marks-fit (n .table) (r .0) (r .1) (n .polygons) l each .0;
             of-polygon = λ k low high. answered (n .table) (polygon (n .polygons) k) (r .0) (r .1) (getD l (k - 1) []) (each-at (n .table) (r .0) (r .1) (n .polygons) l each (k - 1) (omega arith));
@@ -86,6 +88,7 @@ module _ (mode : ℕ) (s : List ℕ) where
             h .read,
             sheet-value n (with-owners n owners) .1
                 (refl, passes (frameEdges (n .table)) (n .table) .1 r, polygons-value (n .table) (n .polygons) owners .1 (h .sets, each-carried (n .table) (n .polygons) (h .sets) .1 each, sym (h .owners-are))),
+            framed-yes mode s n .1 (h .framed),
           )
 
 -- There are owners for each triangle.
@@ -123,6 +126,7 @@ module _ {mode : ℕ} {s : List ℕ} {n : Sheet} where
       subst (HasSets mode s n) (sets-are (length (n .table)) (h .sets) ∙ ap (map setOf) (sym (h .owners-are))) (record {
         read = h .read;
         passes = r;
+        framed = h .framed;
         each = length-owner-sets (length (n .table)) (h .sets) fit;
         bits = λ k low high. (getD (h .sets) (k - 1) [], h .of-polygon k low high, λ t l. bit-stands (length (n .table)) (h .sets) fit (k - 1) t (omega (arith, h .of-polygon k low high .of-table)));
         no-others = subst (λ m. All (λ set. set < 2 ^ m) (ownerSets (length (n .table)) (h .sets))) (h .as-many) (owner-sets-below (length (n .table)) (h .sets));
@@ -134,7 +138,7 @@ module _ {mode : ℕ} {s : List ℕ} {n : Sheet} where
     where
       from : HasSets mode s n sets → (owners : List (List ℕ)) × HasOwners mode s n owners × (sets ≡ map setOf owners)
       from h =
-          let (owners, e) = all-sound mode s n .1 (h .read, passes (frameEdges (n .table)) (n .table) .1 (h .passes), λ k low high. let (marks, o, b) = h .bits k low high in ((marks, o .of-table, o .carries), o .ground)) in
+          let (owners, e) = all-sound mode s n .1 (h .read, passes (frameEdges (n .table)) (n .table) .1 (h .passes), h .framed, λ k low high. let (marks, o, b) = h .bits k low high in ((marks, o .of-table, o .carries), o .ground)) in
           let o = has-owners mode s n owners .0 e in
           (owners, o, one-list h (sets-of owners o))
 
@@ -154,25 +158,27 @@ module _ (mode : ℕ) (s : List ℕ) where
       to : judgedSheet mode s ≡ refused code item → Refused mode s code item
       to e = elim (judged-refused mode s code item .0 e) [
         | inl r ↦ unread r
-        | inr (n, p, q) ↦ elim (sheet-refused n code item .0 q) [
+        | inr (n, p, q) ↦ elim (sheet-refused (whole-around mode s n) n code item .0 q) [
           | inl r ↦ by-table n p r
-          | inr (r, f) ↦ elim (is-first (n .table) r (n .polygons) code item f) [
-            | inl (c, first) ↦ subst (λ c. Refused mode s c item) (sym c) (not-carried n p (passes (frameEdges (n .table)) (n .table) .0 r) first)
-            | inr (c, first) ↦ subst (λ c. Refused mode s c item) (sym c) (no-ground n p (passes (frameEdges (n .table)) (n .table) .0 r) first)
+          | inr (inl (r, b, c, i)) ↦ rw (c, i) (unframed n p (passes (frameEdges (n .table)) (n .table) .0 r) (framed-no mode s n .0 b))
+          | inr (inr (r, b, f)) ↦ elim (is-first (n .table) r (n .polygons) code item f) [
+            | inl (c, first) ↦ subst (λ c. Refused mode s c item) (sym c) (not-carried n p (passes (frameEdges (n .table)) (n .table) .0 r) (framed-yes mode s n .0 b) first)
+            | inr (c, first) ↦ subst (λ c. Refused mode s c item) (sym c) (no-ground n p (passes (frameEdges (n .table)) (n .table) .0 r) (framed-yes mode s n .0 b) first)
           ]
         ]
       ]
 
       table-refused : (n : Sheet) (code item : ℕ) → readBy members mode s ≡ value n → checkTable (frameEdges (n .table)) (n .table) ≡ refused code item → judgedSheet mode s ≡ refused code item
-      table-refused n code item p e = judged-refused mode s code item .1 (inr (n, p, sheet-refused n code item .1 (inl e)))
+      table-refused n code item p e = judged-refused mode s code item .1 (inr (n, p, sheet-refused (whole-around mode s n) n code item .1 (inl e)))
 
       from : {code item : ℕ} → Refused mode s code item → judgedSheet mode s ≡ refused code item
       from (unread {code} {item} e) = judged-refused mode s code item .1 (inl e)
       from (breaks-A {k} n p f) = table-refused n 10 k p (refused-A (n .table) k .1 f)
       from (breaks-B {k} n p a f) = table-refused n 11 k p (refused-B (n .table) k .1 (a, f))
       from (breaks-C n p a b c) = table-refused n 12 0 p (refused-C (n .table) 0 .1 (refl, a, b, c))
-      from (not-carried {k} n p r f) = first-refused mode s 20 k (inl refl) .1 (n, p, passes (frameEdges (n .table)) (n .table) .1 r, inl (refl, f))
-      from (no-ground {k} n p r f) = first-refused mode s 21 k (inr refl) .1 (n, p, passes (frameEdges (n .table)) (n .table) .1 r, inr (refl, f))
+      from (unframed n p r w) = judged-refused mode s 52 0 .1 (inr (n, p, sheet-refused (whole-around mode s n) n 52 0 .1 (inr (inl (passes (frameEdges (n .table)) (n .table) .1 r, framed-no mode s n .1 w, refl, refl)))))
+      from (not-carried {k} n p r w f) = first-refused mode s 20 k (inl refl) .1 (n, p, passes (frameEdges (n .table)) (n .table) .1 r, w, inl (refl, f))
+      from (no-ground {k} n p r w f) = first-refused mode s 21 k (inr refl) .1 (n, p, passes (frameEdges (n .table)) (n .table) .1 r, w, inr (refl, f))
 
   -- ---- what an entry goes on to
   module _ {A : Type 0} (next : Judged → Answer A) where

@@ -1,8 +1,10 @@
 -- The entries as one list, so that a promise to all of them is said once.
+use mathlib.Core.Bool.{cond}
 use mathlib.Core.List.{List}
 use Prim.Native.Nat.{ℕ}
+use lib.Dec.{leb}
 use Rattle.lent.specs.Answered.{Outcome}
-use Rattle.outcomes.specs.Entries.{sheetNumbersBy, sheetPosition, sheetWrite, sheetOwnerSetsBy, sheetOwnersBy, sheetBoundaryBy, sheetListingBy}
+use Rattle.outcomes.specs.Entries.{sheetNumbersBy, sheetPosition, sheetWrite, sheetWriteBlob, sheetOwnerSetsBy, sheetOwnersBy, sheetBoundaryBy, sheetListingBy}
 
 -- An entry, with what is asked of it besides the bytes: the mode of reading, the way to fill gaps, and for the boundary entry a polygon by its number. The entries
 -- that take no mode and no way are those in mode 0 and way 0.
@@ -10,6 +12,7 @@ pub data Entry : Type 0 where
   numbers : (mode : ℕ) → Entry
   position : (mode : ℕ) → Entry
   write : Entry
+  writeBlob : Entry
   ownerSets : (mode : ℕ) → Entry
   owners : (mode way : ℕ) → Entry
   boundary : (mode way polygon : ℕ) → Entry
@@ -20,16 +23,18 @@ abbrev pub outcomeOf : Entry → List ℕ → Outcome
 outcomeOf (numbers mode) s = sheetNumbersBy mode s
 outcomeOf (position mode) s = sheetPosition mode s
 outcomeOf write s = sheetWrite s
+outcomeOf writeBlob s = sheetWriteBlob s
 outcomeOf (ownerSets mode) s = sheetOwnerSetsBy mode s
 outcomeOf (owners mode way) s = sheetOwnersBy mode way s
 outcomeOf (boundary mode way polygon) s = sheetBoundaryBy mode way polygon s
 outcomeOf (listing mode way) s = sheetListingBy mode way s
 
--- The room of an entry: lent so many bytes, it never answers 40.
+-- The room of an entry: lent so many bytes, it never answers 40. A blob's numbers have one more than a sheet's, 4 bytes.
 abbrev pub roomOf : Entry → ℕ
-roomOf (numbers mode) = 65_800
+roomOf (numbers mode) = cond (leb mode 1) 65_800 65_804
 roomOf (position mode) = 16
 roomOf write = 158_290
+roomOf writeBlob = 158_330
 roomOf (ownerSets mode) = 8_192
 roomOf (owners mode way) = 1_024
 roomOf (boundary mode way polygon) = 49_152

@@ -6,3 +6,4 @@ pub mod Positions
 pub mod Triangles
 pub mod Polygons
 pub mod Answers
+pub mod Blobs

@@ -1,5 +1,6 @@
 -- What the promises on byte positions speak of: the next place after a step, lent bytes that are enough, the entries that read a sheet.
 use mathlib.Core.Path.{_≡_}
+use mathlib.Core.Logic.{_⊎_}
 use mathlib.Core.List.{List}
 use Prim.Native.Nat.{ℕ, _+_, _≤_}
 use lib.ListN.{length}
@@ -9,7 +10,7 @@ use Rattle.wkb.specs.declared.Step.the-variants.{Geometry, Ring, Point, End, Re
 use Rattle.wkb.specs.Steps.{toldAt}
 use Rattle.lent.specs.Stages.{value, refused}
 use Rattle.lent.specs.Answered.{Outcome}
-use Rattle.demands.specs.Entries.{Entry, numbers, position, write, ownerSets, owners, boundary, listing}
+use Rattle.demands.specs.Entries.{Entry, numbers, position, write, writeBlob, ownerSets, owners, boundary, listing}
 
 -- The next place is within the bytes, and as far from where the step began as the field is long: 9 bytes a header, 4 a ring's count, 16 a point.
 abbrev pub NextAfter : List ℕ → Cursor → Step → Type 0
@@ -24,11 +25,18 @@ abbrev pub Enough : Outcome → List ℕ → Type 0
 Enough (value w) lent = length (w .text) ≤ length lent
 Enough (refused code item) lent = Unit {0}
 
+-- The codes that reading in a mode is refused with: 1 to 8, 50 or 51 for a blob's header, 57 for the mode.
+pub data OfReading : ℕ → Type 0 where
+  low : {code : ℕ} → code ≤ 8 → OfReading code
+  of-header : {code : ℕ} → (code ≡ 50) ⊎ (code ≡ 51) → OfReading code
+  of-mode : {code : ℕ} → code ≡ 57 → OfReading code
+
 -- The entries that read a sheet in the mode and hand a refusal of reading on as their own.
 abbrev pub ReadsSheet : ℕ → Entry → Type 0
 ReadsSheet mode (numbers m) = m ≡ mode
 ReadsSheet mode (position m) = ⊥
 ReadsSheet mode write = ⊥
+ReadsSheet mode writeBlob = ⊥
 ReadsSheet mode (ownerSets m) = m ≡ mode
 ReadsSheet mode (owners m way) = m ≡ mode
 ReadsSheet mode (boundary m way k) = m ≡ mode

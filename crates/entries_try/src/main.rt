@@ -79,8 +79,8 @@ fn by(entry: u8, input: &[u8], lent: &mut [u8]) -> u64 {
     }
 }
 
-// What the entry answers: 0 numbers, 1 write, 2 owner sets, 3 owners, 4 boundary, 5 listing, 6 position, 7 to 11 those by a mode and a way. Any other answers
-// 255, a code that no entry gives.
+// What the entry answers: 0 numbers, 1 write, 2 owner sets, 3 owners, 4 boundary, 5 listing, 6 position, 7 to 11 those by a mode and a way, 12 write blob. Any
+// other answers 255, a code that no entry gives.
 fn answer(entry: u8, input: &[u8], lent: &mut [u8]) -> u64 {
     match entry {
         0 => sheets::sheet_numbers(input, lent),
@@ -90,6 +90,7 @@ fn answer(entry: u8, input: &[u8], lent: &mut [u8]) -> u64 {
         4 => boundary(input, lent),
         5 => sheets::sheet_listing(input, lent),
         6 => position(input, lent),
+        12 => sheets::sheet_write_blob(input, lent),
         _ => by(entry, input, lent),
     }
 }

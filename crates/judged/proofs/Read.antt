@@ -22,26 +22,30 @@ use Rattle.sheet_modes.specs.Modes.{readBy}
 use Rattle.judged_sets.specs.declared.Owning.{Owning}
 use Rattle.judged_sets.specs.declared.Owning.the-variants.{Sets, Refused as RefusedOwning}
 use Rattle.judged_sets.specs.Owning.{heldSets}
-use Rattle.judged.specs.Judged.{Judged, judgeSheet, judgedSheet}
+use Rattle.judged.specs.Judged.{Judged, checkFramed}
 use Rattle.judged.specs.Judging.{OwnedOf}
-use Rattle.judged.specs.Held.{JudgedHeld, JudgedAs}
-use Rattle.judged.proofs.Stages.{checked, polygons-value, sheet-value, sheet-refused, judged-value, judged-refused}
+use Rattle.judged.specs.Held.{judgeSheet, JudgedHeld, JudgedAs}
+use Rattle.judged.proofs.Stages.{framed-value, framed-refused, polygons-value, sheet-value, sheet-refused, whole-around, judged-value, judged-refused}
 
 -- ---- what the judging of the sheet read comes to
 module _ (mode : ℕ) (s : List ℕ) (n : Sheet) (r : readBy members mode s ≡ value n) (size : ℕ) (numbers : List ℕ) (held : SheetHeld members n (take size numbers)) (opposite l : List ℕ) where
+  abbrev whole : Bool
+  whole = whole-around mode s n
+
   abbrev held-polygons : Unit {0} → Answer (List ℕ)
   held-polygons u = heldSets (n .table) (n .polygons)
 
   -- With its marks.
-  with-marks : (t : ℕ) → OwnedOf n (Sets t) opposite l → checked n ≡ value tt → (marks : List (List Bool)) → judgeFrom (n .table) 1 (n .polygons) ≡ value marks
+  with-marks : (t : ℕ) → OwnedOf whole n (Sets t) opposite l → checkFramed whole n ≡ value tt → (marks : List (List Bool)) → judgeFrom (n .table) 1 (n .polygons) ≡ value marks
       → ownerSets (length (n .table)) marks ≡ take t l → JudgedAs mode s (Sets t) numbers opposite l
   with-marks t w p marks u v =
       let j : Judged = record { sheet = n; owners = ownersFrom (length (n .table)) 1 marks } in
-      let c : judgeSheet n ≡ value j = sheet-value n j .1 (refl, p, polygons-value (n .table) (n .polygons) (j .owners) .1 (marks, u, refl)) in
-      let rules = passes (frameEdges (n .table)) (n .table) .0 p in
+      let f = framed-value whole n .0 p in
+      let c : judgeSheet n ≡ value j = sheet-value n j .1 (refl, f .0, polygons-value (n .table) (n .polygons) (j .owners) .1 (marks, u, refl)) in
+      let rules = passes (frameEdges (n .table)) (n .table) .0 (f .0) in
       let few = marks-fit (n .table) (rules .0) (rules .1) (n .polygons) marks (all-carried (n .table) (n .polygons) marks .0 u) .0 in (
         j,
-        judged-value mode s j .1 (r, c),
+        judged-value mode s j .1 (r, c, f .1),
         sym (w .each),
         record {
           size = size;
@@ -53,18 +57,18 @@ module _ (mode : ℕ) (s : List ℕ) (n : Sheet) (r : readBy members mode s ≡ 
         },
       )
 
-  pub judged-as : (o : Owning) → OwnedOf n o opposite l → JudgedAs mode s o numbers opposite l
+  pub judged-as : (o : Owning) → OwnedOf whole n o opposite l → JudgedAs mode s o numbers opposite l
   judged-as (Sets t) w =
-      let (u, p, q) = chain-value (checked n) held-polygons (take t l) .0 (sym (w .is)) in
+      let (u, p, q) = chain-value (checkFramed whole n) held-polygons (take t l) .0 (sym (w .is)) in
       let (marks, f, g) = chain-value (judgeFrom (n .table) 1 (n .polygons)) (λ sets. value (ownerSets (length (n .table)) sets)) (take t l) .0 q in
       with-marks t w p marks f (cc g)
   judged-as (RefusedOwning code item) w = judged-refused mode s code item .1 (inr (
     n,
     r,
-    sheet-refused n code item .1 (elim (chain-refused (checked n) held-polygons code item .0 (sym (w .is))) [
-      | inl p ↦ inl p
+    sheet-refused whole n code item .1 (elim (chain-refused (checkFramed whole n) held-polygons code item .0 (sym (w .is))) [
+      | inl p ↦ elim (framed-refused whole n code item .0 p) [ inl q ↦ inl q | inr q ↦ inr (inl q) ]
       | inr (u, p, q) ↦ elim (chain-refused (judgeFrom (n .table) 1 (n .polygons)) (λ sets. value (ownerSets (length (n .table)) sets)) code item .0 q) [
-        | inl f ↦ inr (p, f)
+        | inl f ↦ let (c, b) = framed-value whole n .0 p in inr (inr (c, b, f))
         | inr (marks, f, g) ↦ absurd (value-refused _ code item g)
       ]
     ]),

@@ -38,7 +38,8 @@ use Rattle.repair_sides.proofs.Bounding.{sides-are-boundary as are-boundary, si
 use Rattle.sheet_form.specs.Numbers.{Sheet, members, memberNumbers, counted}
 use Rattle.sheet.specs.Held.{SheetHeld}
 use Rattle.sheet_edges.proofs.Triangles.{held-keys}
-use Rattle.judged.specs.Judged.{Judged, judgeSheet, repairOf}
+use Rattle.judged.specs.Judged.{Judged, repairOf}
+use Rattle.judged.specs.Held.{judgeSheet}
 use Rattle.judged.proofs.Stages.{polygons-value, sheet-value}
 
 -- What owners come from: the marks of each polygon.

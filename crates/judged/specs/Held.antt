@@ -1,18 +1,23 @@
 -- A judged sheet as the code holds it: the sheet in numbers, its owner sets, and the side across each side.
 use mathlib.Core.Path.{_≡_}
+use mathlib.Core.Bool.{true}
 use mathlib.Core.List.{List, map}
 use Prim.Native.Nat.{ℕ, _*_}
 use lib.ListN.{length, take}
 use Rattle.plane.specs.Boundaries.{sidesOf}
-use Rattle.lent.specs.Stages.{value, refused}
+use Rattle.lent.specs.Stages.{Answer, value, refused}
 use Rattle.table.specs.Opposites.{opposites}
 use Rattle.owners_marks.specs.Marks.{setOf}
 use Rattle.owners_marks.specs.Sets.{ownersOf}
-use Rattle.sheet_form.specs.Numbers.{members}
+use Rattle.sheet_form.specs.Numbers.{Sheet, members}
 use Rattle.sheet.specs.Held.{SheetHeld}
 use Rattle.judged_sets.specs.declared.Owning.{Owning}
 use Rattle.judged_sets.specs.declared.Owning.the-variants.{Sets, Refused}
-use Rattle.judged.specs.Judged.{Judged, judgeSheet, judgedSheet}
+use Rattle.judged.specs.Judged.{Judged, judgeFramed, judgedSheet}
+
+-- What a sheet by itself comes to: with no envelope, or one that is the frame.
+abbrev pub judgeSheet : Sheet → Answer Judged
+judgeSheet n = judgeFramed true n
 
 -- The judged sheet j: it stands at the front of `numbers`, its owner sets are `sets`, each the 64-bit form of a triangle's owners, and `opposite` has
 -- for each side of its table the number of its reverse.

@@ -1,30 +1,41 @@
--- From bytes to a judged sheet, and on to its repair: reading, the table rules, the judging of the polygons in number order.
+-- From bytes to a judged sheet, and on to its repair: reading, the table rules, the envelope, the judging of the polygons in number order.
+use mathlib.Core.Bool.{Bool}
 use mathlib.Core.List.{List}
 use Prim.Native.Nat.{ℕ}
 use Rattle.plane.specs.Boundaries.{sidesOf}
-use Rattle.lent.specs.Stages.{Answer, value, andThen}
+use Rattle.lent.specs.Stages.{Answer, value, andThen, needing}
 use Rattle.table.specs.Table.{frameEdges, checkTable}
 use Rattle.table.specs.Opposites.{opposites}
 use Rattle.owners.specs.Owners.{judgePolygons}
 use Rattle.repair.specs.Ways.{repairedBy}
 use Rattle.sheet_form.specs.Numbers.{Sheet, members}
-use Rattle.sheet_modes.specs.Modes.{readBy}
+use Rattle.sheet_modes.specs.Modes.{readBy, headerBy, framed}
 
 -- A judged sheet: the sheet in numbers, with the owners of each triangle of its table before repair.
 pub record Judged : Type 0 where
   pub sheet : Sheet
   pub owners : List (List ℕ)
 
--- The table rules against the frame, and then the polygons.
-unfoldable pub judgeSheet : Sheet → Answer Judged
-judgeSheet n =
+-- An envelope that isn't the frame is refused 52 with item 0.
+abbrev pub matched : Bool → Answer (Unit {0})
+matched whole = needing whole 52 0
+
+-- The table rules against the frame, and then the envelope. The first argument says whether it is the frame, or there is none.
+abbrev pub checkFramed : Bool → Sheet → Answer (Unit {0})
+checkFramed whole n =
     andThen (checkTable (frameEdges (n .table)) (n .table)) (λ _.
+    matched whole)
+
+-- And then the polygons.
+unfoldable pub judgeFramed : Bool → Sheet → Answer Judged
+judgeFramed whole n =
+    andThen (checkFramed whole n) (λ _.
     andThen (judgePolygons (n .table) (n .polygons)) (λ owners.
     value (record { sheet = n; owners = owners })))
 
--- What bytes come to in a mode: read as a sheet, which is judged.
+-- What bytes come to in a mode: read as a sheet, which is judged with the envelope that stands around it.
 unfoldable pub judgedSheet : ℕ → List ℕ → Answer Judged
-judgedSheet mode s = andThen (readBy members mode s) judgeSheet
+judgedSheet mode s = andThen (readBy members mode s) (λ n. judgeFramed (framed (headerBy mode s) n) n)
 
 -- The repair of a judged sheet in a way.
 abbrev pub repairOf : ℕ → Judged → Answer (List ℕ)

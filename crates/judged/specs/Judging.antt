@@ -1,25 +1,26 @@
 -- How the code's answer shows what a held sheet comes to by the table rules and the judging of its polygons.
 use mathlib.Core.Path.{_≡_}
+use mathlib.Core.Bool.{Bool}
 use mathlib.Core.List.{List}
 use Prim.Native.Nat.{ℕ, _*_}
 use lib.ListN.{length, take}
 use Rattle.plane.specs.Points.{Triangle}
 use Rattle.plane.specs.Boundaries.{sidesOf}
 use Rattle.lent.specs.Stages.{andThen}
-use Rattle.table.specs.Table.{frameEdges, checkTable}
 use Rattle.table.specs.Opposites.{opposites}
 use Rattle.sheet_form.specs.Numbers.{Sheet}
 use Rattle.judged_sets.specs.declared.Owning.{Owning}
 use Rattle.judged_sets.specs.declared.Owning.the-variants.{Sets, Refused}
 use Rattle.judged_sets.specs.Owning.{heldSets, ownedAs, OneEach}
+use Rattle.judged.specs.Judged.{checkFramed}
 
 -- Beside owner sets the number of the reverse of each side of the table stands in a list.
 abbrev pub Crossed : Owning → List Triangle → List ℕ → Type 0
 Crossed (Sets n) table opposite = take (3 * n) opposite ≡ opposites (sidesOf table)
 Crossed (Refused code item) table opposite = Unit {0}
 
--- The answer with the two lists is what the sheet comes to: the table rules, and then the polygons.
-pub record OwnedOf (n : Sheet) (r : Owning) (opposite l : List ℕ) : Type 0 where
-  pub is : ownedAs r l ≡ andThen (checkTable (frameEdges (n .table)) (n .table)) (λ _. heldSets (n .table) (n .polygons))
+-- The answer with the two lists is what the sheet comes to: the table rules, the envelope, and then the polygons.
+pub record OwnedOf (whole : Bool) (n : Sheet) (r : Owning) (opposite l : List ℕ) : Type 0 where
+  pub is : ownedAs r l ≡ andThen (checkFramed whole n) (λ _. heldSets (n .table) (n .polygons))
   pub each : OneEach r (length (n .table))
   pub crossed : Crossed r (n .table) opposite

@@ -1,20 +1,24 @@
-// From bytes to a judged sheet: reading in a mode, the table rules, and the judging of the polygons in number order.
+// From bytes to a judged sheet: reading in a mode, the table rules, the envelope, and the judging of the polygons in number order.
 ghost use mathlib.Core.Path.{_≡_};
 ghost use Prim.Native.Nat.{_*_, _≤_};
 ghost use lib.ListN.{length};
 ghost use Rattle.sheet_form.specs.Numbers.{Sheet, members};
 ghost use Rattle.sheet.specs.Held.{SheetHeld};
 ghost use Rattle.judged_table.specs.Checked.{Lists};
+ghost use Rattle.sheet_modes.specs.Modes.{framed};
+ghost use Rattle.sheet_modes.specs.Held.{aroundOf};
 ghost use Rattle.judged.specs.Judging.{OwnedOf};
 ghost use Rattle.judged.specs.Held.{JudgedAs};
 use judged_sets::Owning;
 use plane::OFFSET;
-use sheet::Ending;
+use sheet_modes::Around;
+use sheet_modes::Got;
 use table_check::Check;
 
-// The sheet in numbers with work lists of the right lengths: the table rules, and then the polygons.
+// The sheet in numbers with work lists of the right lengths: the table rules, the envelope around it, 52 where that isn't the frame, and then the polygons.
 fn judge_in(
     numbers: &[u32],
+    around: Around,
     keys: &mut [u64],
     ordered: &mut [u64],
     index: &mut [u64],
@@ -22,11 +26,14 @@ fn judge_in(
     sets: &mut [u64],
 ) -> Owning
     requires { ⌜ ((n : Sheet) × SheetHeld members n (now numbers) × (length (n .table) ≡ length (now sets))) × Lists (3 * length (now sets)) (now keys) (now ordered) (now index) (now opposite) ⌝ }
-    ensures { λ r. ⌜ ((n : Sheet) → SheetHeld members n (now (numbers .entry)) → length (n .table) ≡ length (now (sets .entry)) → OwnedOf n r (now (opposite .exit)) (now (sets .exit))) ⌝ }
+    ensures { λ r. ⌜ ((n : Sheet) → SheetHeld members n (now (numbers .entry)) → length (n .table) ≡ length (now (sets .entry)) → OwnedOf (framed (aroundOf around) n) n r (now (opposite .exit)) (now (sets .exit))) ⌝ }
 {
     match judged_table::check(numbers, keys, ordered, index, opposite) {
         Check::Refused(code, item) => Owning::Refused(code, item),
         Check::Passed(k) => {
+            if !sheet_modes::framed(numbers, around) {
+                return Owning::Refused(52, 0);
+            }
             judged_sets::judge_all(numbers, &ordered[..k], index, opposite, sets)
         }
     }
@@ -34,9 +41,9 @@ fn judge_in(
 
 // The sheet in numbers: its owner sets, laid down at the front of the lent ones, and beside them the number of the reverse of each side; or the
 // refusal.
-fn judge(numbers: &[u32], opposite: &mut [usize], sets: &mut [u64]) -> Owning
+fn judge(numbers: &[u32], around: Around, opposite: &mut [usize], sets: &mut [u64]) -> Owning
     requires { ⌜ ((n : Sheet) × SheetHeld members n (now numbers)) × (3072 ≤ length (now opposite)) × (1024 ≤ length (now sets)) ⌝ }
-    ensures { λ r. ⌜ ((n : Sheet) → SheetHeld members n (now (numbers .entry)) → OwnedOf n r (now (opposite .exit)) (now (sets .exit))) ⌝ }
+    ensures { λ r. ⌜ ((n : Sheet) → SheetHeld members n (now (numbers .entry)) → OwnedOf (framed (aroundOf around) n) n r (now (opposite .exit)) (now (sets .exit))) ⌝ }
 {
     let t = (numbers[0] - OFFSET) as usize;
     let m = 3 * t;
@@ -45,6 +52,7 @@ fn judge(numbers: &[u32], opposite: &mut [usize], sets: &mut [u64]) -> Owning
     let mut index = [0u64; 3072];
     judge_in(
         numbers,
+        around,
         &mut keys[..m],
         &mut ordered[..m],
         &mut index[..m],
@@ -66,7 +74,7 @@ pub fn judged(
     ensures { λ r. ⌜ JudgedAs mode (now (sheet .entry)) r (now (numbers .exit)) (now (opposite .exit)) (now (sets .exit)) ⌝ }
 {
     match sheet_modes::read(sheet, mode, numbers) {
-        Ending::Refused(code, item, _) => Owning::Refused(code, item),
-        Ending::Sheet(n) => judge(&numbers[..n], opposite, sets),
+        Got::Refused(code, item, _) => Owning::Refused(code, item),
+        Got::Sheet(n, around) => judge(&numbers[..n], around, opposite, sets),
     }
 }

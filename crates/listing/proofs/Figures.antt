@@ -37,7 +37,8 @@ use Rattle.listing_figures.specs.Standings.{isGap, isSingle, isOverlap, owing}
 use Rattle.listing_figures.proofs.Totals.{total-area, chosen-many, after-marks, before-marks}
 use Rattle.owners.proofs.Carried.{answered}
 use Rattle.owners.proofs.Polygons.{EachCarried, marks-fit}
-use Rattle.judged.specs.Judged.{Judged, judgeSheet}
+use Rattle.judged.specs.Judged.{Judged}
+use Rattle.judged.specs.Held.{judgeSheet}
 use Rattle.judged.proofs.Repaired.{rules, made, owners-many}
 
 -- ---- lists

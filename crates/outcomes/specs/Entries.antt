@@ -1,6 +1,7 @@
 -- What each entry comes to, by what is asked of it.
 use mathlib.Core.Bool.{Bool, _&&_}
-use mathlib.Core.List.{List, _++_, map, flatMap}
+use mathlib.Core.List.{List, [], _++_, map, flatMap}
+use mathlib.Core.Option.{Option, none, some}
 use Prim.Native.Nat.{ℕ, _+_, _*_}
 use lib.Dec.{leb}
 use lib.ListN.{length}
@@ -14,9 +15,11 @@ use Rattle.owners_marks.specs.Marks.{setOf}
 use Rattle.repair_sides.specs.Sides.{boundarySides, trianglesOwned}
 use Rattle.repair_answers.specs.Answers.{numbersAfter}
 use Rattle.sheet_form.specs.Numbers.{Sheet, members, numbersOf}
-use Rattle.sheet_modes.specs.Modes.{editionOf, readBy, positionIn}
+use Rattle.sheet_blob.specs.declared.Opened.{Opened}
+use Rattle.sheet_blob_written.specs.Given.{blobGiven, writeBlob}
+use Rattle.sheet_modes.specs.Modes.{modeOf, headerBy, readBy, framed, positionIn}
 use Rattle.sheet_written.specs.Given.{sheetGiven, writeOutcome}
-use Rattle.judged.specs.Judged.{Judged, judgedSheet, repairOf}
+use Rattle.judged.specs.Judged.{Judged, matched, judgedSheet, repairOf}
 use Rattle.listing.specs.Listing.{listing}
 use Rattle.outcomes.specs.declared.Asked.{Asked}
 use Rattle.outcomes.specs.declared.Wanted.{Wanted}
@@ -26,12 +29,20 @@ use Rattle.outcomes.specs.declared.Wanted.the-variants.{OwnerSets, Owner
 abbrev pub formOf : Sheet → List ℕ
 formOf n = flatMap i32 (numbersOf n)
 
-abbrev pub formOutcome : Sheet → Outcome
-formOutcome n = bytes (length (formOf n)) (formOf n)
+-- The first of a blob's numbers is its reference-system number.
+abbrev pub firstOf : Option Opened → List ℕ
+firstOf none = []
+firstOf (some r) = Ordered.bytes 4 (r .number)
 
--- sheet_numbers_by; sheet_numbers is the same in mode 0.
+abbrev pub formOutcome : Option Opened → Sheet → Outcome
+formOutcome o n = bytes (length (firstOf o) + length (formOf n)) (firstOf o ++ formOf n)
+
+-- sheet_numbers_by: the sheet is read, and an envelope that isn't the frame of its table is refused 52. sheet_numbers is the same in mode 0.
 abbrev pub sheetNumbersBy : ℕ → List ℕ → Outcome
-sheetNumbersBy mode s = andThen (readBy members mode s) formOutcome
+sheetNumbersBy mode s =
+    andThen (readBy members mode s) (λ n.
+    andThen (matched (framed (headerBy mode s) n)) (λ _.
+    formOutcome (headerBy mode s) n))
 
 abbrev pub sheetNumbers : List ℕ → Outcome
 sheetNumbers = sheetNumbersBy 0
@@ -50,14 +61,18 @@ abbrev pub telling : ℕ → ℕ → Outcome
 telling answer position = bytes 16 (u64 answer ++ u64 position)
 
 -- sheet_position: the answer of the numbers entry in the mode with room enough, and the byte position of the field at fault, 0 where the sheet is read or the
--- mode is unknown.
+-- refusal has a code above 8.
 abbrev pub sheetPosition : ℕ → List ℕ → Outcome
-sheetPosition mode s = telling (withRoom (sheetNumbersBy mode s)) (positionIn (editionOf mode) s)
+sheetPosition mode s = telling (withRoom (sheetNumbersBy mode s)) (positionIn (modeOf mode) s)
 
 -- ---- writing
 -- sheet_write: the normal bytes of the sheet that the numbers give, else 42.
 abbrev pub sheetWrite : List ℕ → Outcome
 sheetWrite s = writeOutcome (sheetGiven members s)
+
+-- sheet_write_blob: the normal bytes of the blob that the numbers give, its reference-system number first, else 42.
+abbrev pub sheetWriteBlob : List ℕ → Outcome
+sheetWriteBlob s = writeBlob (blobGiven members s)
 
 -- ---- the entries that judge
 -- The boundary sides of the triangles that a polygon owns after repair; the item is the number of sides.

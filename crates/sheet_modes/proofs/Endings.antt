@@ -1,27 +1,20 @@
 -- What the ending of a reading says of the sheet read, and where its numbers stand. Assumes nothing.
-use mathlib.Core.Path.{_≡_, refl, sym, ap, ap₂, _∙_}
+use mathlib.Core.Path.{_≡_, refl, ap, ap₂, _∙_}
 use mathlib.Core.Bool.{Bool, true, false, cond}
 use mathlib.Core.List.{List, map}
 use Prim.Native.Nat.{ℕ, _≤_}
 use native.Mathlib.Omega.{arith}
 use borrow.Author.Tests.{eqb-true}
 use lib.Dec.{eqb}
-use lib.ListN.{length, take, length-map}
-use lib.Seq.{length-take-le}
+use lib.ListN.{length, take}
 use Rattle.plane.specs.Corners.{millimetres}
 use Rattle.lent.specs.Stages.{refused}
-use Rattle.lent.proofs.Stages.{value-refused, same-refusal}
-use Rattle.sheet.specs.declared.Ending.{Ending}
 use Rattle.sheet.specs.declared.Ending.the-variants.{Sheet as Read, Refused}
-use Rattle.sheet_form.specs.Numbers.{Sheet, members, numbersOf}
 use Rattle.sheet_form.specs.Form.{sheetIn}
-use Rattle.sheet.specs.Held.{SheetHeld}
 use Rattle.sheet.specs.Reading.{Reading, readingOf}
 use Rattle.sheet.specs.Going.{laid, readOf}
 use Rattle.sheet.specs.Read.{made, readSheet}
 use Rattle.sheet.proofs.Laid.{length-laid, laid-front}
-use Rattle.sheet_older.proofs.Sheets.{same-held}
-use Rattle.sheet_modes.specs.Held.{ReadAs}
 
 -- A sheet was read: its numbers, and no code.
 pub sheet-is : (r : Reading) (n : ℕ) → readOf r ≡ Read n → (n ≡ length (r .numbers)) × (r .code ≡ 0)
@@ -56,22 +49,10 @@ room last l out e = ap length e ∙ length-laid l out
 pub front : (last l out : List ℕ) (n : ℕ) → last ≡ laid l out → length l ≤ length out → n ≡ length l → take n last ≡ l
 front last l out n e h q = ap₂ take q e ∙ laid-front l out h
 
--- ---- two outcomes that the contract of `read` allows
--- The answers are the same, and where a sheet is read so are its numbers.
-module _ (mode : ℕ) (s l l′ : List ℕ) where
-  as-many : {n : Sheet} (k : ℕ) (l : List ℕ) → SheetHeld members n (take k l) → k ≤ length l → length (numbersOf n) ≡ k
-  as-many k l h m = ap length (sym (h .is)) ∙ length-map (take k l) millimetres ∙ length-take-le k l m
-
-  pub one-outcome : (r r′ : Ending) → ReadAs mode s r l → ReadAs mode s r′ l′ → (r ≡ r′) × ((k : ℕ) → r ≡ Read k → take k l ≡ take k l′)
-  one-outcome (Read k) (Read k′) (n, p, h, m) (n′, p′, h′, m′) =
-      let same : n ≡ n′ = cc (sym p ∙ p′) in
-      let e : k ≡ k′ = sym (as-many k l h m) ∙ ap (λ n. length (numbersOf n)) same ∙ as-many k′ l′ h′ m′ in (
-        ap Read e,
-        λ i q. let z : k ≡ i = cc q in
-            rw (← z) (same-held (take k l) (take k l′) (h .is ∙ ap numbersOf same ∙ sym (h′ .is) ∙ ap (λ j. map millimetres (take j l′)) (sym e))),
-      )
-  one-outcome (Read k) (Refused code item field) (n, p, h, m) (p′, f) = absurd (value-refused n code item (sym p ∙ p′))
-  one-outcome (Refused code item field) (Read k) (p′, f) (n, p, h, m) = absurd (value-refused n code item (sym p ∙ p′))
-  one-outcome (Refused code item field) (Refused code′ item′ field′) (p, f) (p′, f′) =
-      let (c, i) = same-refusal {A = Sheet} code item code′ item′ .0 (sym p ∙ p′) in
-      (λ j. Refused (sym c j) (sym i j) ((f ∙ sym f′) j), λ k q. absurd (let z : _≡_ {A = ℕ} 0 1 = cc q in omega arith))
+-- A refusal has a code.
+pub code-is : (limit : ℕ) (s : List ℕ) (code item field : ℕ) → readOf (readingOf limit s) ≡ Refused code item field → eqb (readingOf limit s .code) 0 ≡ false
+code-is limit s code item field e = go (eqb (readingOf limit s .code) 0) refl e
+  where
+    go : (b : Bool) → eqb (readingOf limit s .code) 0 ≡ b → cond b (Read (length (readingOf limit s .numbers))) (Refused (readingOf limit s .code) (readingOf limit s .item) (readingOf limit s .position)) ≡ Refused code item field → eqb (readingOf limit s .code) 0 ≡ false
+    go true q e = absurd (let z : _≡_ {A = ℕ} 0 1 = cc e in omega arith)
+    go false q e = q

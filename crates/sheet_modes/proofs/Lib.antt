@@ -1,3 +1,4 @@
 -- The laws of reading in a mode.
 pub mod Modes
 pub mod Endings
+pub mod Outcome

@@ -44,7 +44,8 @@ use Rattle.sheet.specs.Reading.{Taken, nothing, held, opening, readingOf}
 use Rattle.sheet.specs.Going.{reading}
 use Rattle.sheet_standard.specs.Limits.{memberOf, triangleOf, each, sheetOf, FromTo, PieceFits, Each, SheetFits, allLengths}
 use Rattle.sheet.proofs.Run.{reading-starts}
-use Rattle.sheet_standard.proofs.Standard.Fields.{Bytes, heading, heading-is, heads}
+use Rattle.lent_fields.proofs.Fields.{Bytes}
+use Rattle.sheet_standard.proofs.Standard.Fields.{heading, heading-is, heads}
 use Rattle.sheet_standard.proofs.Standard.Steps.{AtGeometry, geometry-goes, geometry-back}
 use Rattle.sheet_standard.proofs.Standard.Left.{Top, Ends, millimetres-count, no-list, no-polygon}
 use Rattle.sheet_standard.proofs.Standard.Opened.{count-fits, fits-count}

@@ -19,7 +19,7 @@ use Rattle.plane.specs.Members.{Ring, Polygon, Member}
 use Rattle.wkb_kinds.specs.declared.Kind.the-variants.{Collection, Tin, Triangle as Three}
 use Rattle.lent_little.specs.Ordered.{bytesOf}
 use Rattle.wkb.specs.Standard.{Geometry, count, header, encodePoint, encodeRing, encode, encodeAll}
-use Rattle.wkb.proofs.Steps.{within}
+use Rattle.lent_fields.proofs.Remains.{within}
 use Rattle.sheet_form.specs.Numbers.{Sheet, members, pointNumbers, triangleNumbers}
 use Rattle.sheet_standard.specs.Limits.{ringLengths, lengths, allLengths}
 use Rattle.sheet_form.specs.Form.{Front, after, pointIn, triangleIn, manyIn, countedIn, ringIn, partIn, memberIn, whole, sheetIn}

@@ -69,7 +69,7 @@ fn signed(b: u32) -> i64
 fn pattern(b: u32) -> u64
     ensures { λ r. ⌜ r ≡ patternOf (toZ w32 b) ⌝ }
 {
-    f64::to_bits(signed(b) as f64)
+    lent_fields::pattern(signed(b) as f64)
 }
 
 // Writes a geometry's header, little-endian.

@@ -81,7 +81,7 @@ limited-is limit (some m) n = (to (sheetFits limit m) refl, from)
     from : T (sheetFits limit n) × (some m ≡ some n) → limited limit (some m) ≡ some n
     from (t, q) = kept (sheetFits limit m) (subst (λ x. T (sheetFits limit x)) (sym (Option·some-injective m n q)) t) ∙ q
 
-given-is : (limit : ℕ) (s : List ℕ) (n : Sheet) → (sheetGiven limit s ≡ some n) ↔ ((length s % 4 ≡ 0) × T (sheetFits limit n) × (numbersOf n ≡ numbersIn s))
+pub given-is : (limit : ℕ) (s : List ℕ) (n : Sheet) → (sheetGiven limit s ≡ some n) ↔ ((length s % 4 ≡ 0) × T (sheetFits limit n) × (numbersOf n ≡ numbersIn s))
 unfolding sheetGiven
 given-is limit s n = (to (eqb (length s % 4) 0) refl, from)
   where

@@ -1,7 +1,7 @@
 -- The theorems of writing: the round trip (Trip), how long a sheet is at most (Sized).
 pub mod Patterns
 mod Encoded
-mod Normal
+pub mod Normal
 mod Measured
 pub mod Sized
 mod Read

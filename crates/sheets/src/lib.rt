@@ -1,7 +1,7 @@
 // The entries that both products call, on numbers and byte slices only. Each answers item × 256 + code, and only fills in what is asked. Those that
 // take no mode and no way are the others in mode 0 and way 0.
 ghost use Rattle.lent.specs.Answered.{Answered};
-ghost use Rattle.outcomes.specs.Entries.{sheetNumbers, sheetNumbersBy, sheetPosition, sheetWrite, sheetOwnerSets, sheetOwnerSetsBy, sheetOwners, sheetOwnersBy, sheetBoundary, sheetBoundaryBy, sheetListing, sheetListingBy};
+ghost use Rattle.outcomes.specs.Entries.{sheetNumbers, sheetNumbersBy, sheetPosition, sheetWrite, sheetWriteBlob, sheetOwnerSets, sheetOwnerSetsBy, sheetOwners, sheetOwnersBy, sheetBoundary, sheetBoundaryBy, sheetListing, sheetListingBy};
 use outcomes::Asked;
 use outcomes::Wanted;
 
@@ -13,7 +13,7 @@ pub extern "C" fn sheet_numbers(sheet: &[u8], out: &mut [u8]) -> u64
     sheet_numbers_by(sheet, 0, out)
 }
 
-// Where in the file: the answer of sheet_numbers with room enough, and the byte position of the field at fault, each as a little-endian u64; the item
+// Where in the file: the answer of sheet_numbers_by with room enough, and the byte position of the field at fault, each as a little-endian u64; the item
 // is 16.
 #[no_mangle]
 pub extern "C" fn sheet_position(sheet: &[u8], mode: u32, out: &mut [u8]) -> u64
@@ -63,8 +63,16 @@ pub extern "C" fn sheet_listing(sheet: &[u8], out: &mut [u8]) -> u64
     sheet_listing_by(sheet, 0, 0, out)
 }
 
+// The normal bytes of the blob that the numbers give: its reference-system number, and then the numbers of its sheet.
+#[no_mangle]
+pub extern "C" fn sheet_write_blob(numbers: &[u8], out: &mut [u8]) -> u64
+    ensures { λ r. ⌜ Answered (sheetWriteBlob (now (numbers .entry))) (now (out .entry)) r (now (out .exit)) ⌝ }
+{
+    sheet_blob_writer::write(numbers, out)
+}
+
 // ---- the entries that take what is asked as numbers
-// The numbers of a sheet that is read in a mode: 0 the present edition, 1 the older one, whose rings are turned.
+// The numbers of a sheet that is read in a mode: 0 the present edition, 1 the older one, whose rings are turned, 2 and 3 the same in GeoPackage blobs.
 #[no_mangle]
 pub extern "C" fn sheet_numbers_by(sheet: &[u8], mode: u32, out: &mut [u8]) -> u64
     ensures { λ r. ⌜ Answered (sheetNumbersBy mode (now (sheet .entry))) (now (out .entry)) r (now (out .exit)) ⌝ }

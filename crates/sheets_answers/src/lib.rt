@@ -1,29 +1,58 @@
 // The general functions of what is asked: the exported entries only fill it in. Each answers item × 256 + code.
-ghost use Rattle.lent.specs.Answered.{Answered};
+ghost use mathlib.Core.List.{_++_, flatMap};
+ghost use Prim.Native.Nat.{_+_, _*_, _≤_};
+ghost use lib.ListN.{length, take};
+ghost use Rattle.lent.specs.Answered.{Answered, bytes};
+ghost use Rattle.lent_little.specs.Held.{heldBytes};
+ghost use Rattle.sheet_modes.specs.Held.{aroundOf};
 ghost use Rattle.judged.specs.Judged.{Judged};
 ghost use Rattle.judged.specs.Held.{JudgedHeld};
 ghost use Rattle.outcomes.specs.declared.Wanted.the-variants.{Boundary};
-ghost use Rattle.outcomes.specs.Entries.{sheetNumbersBy, goesOn, answerTo, sheetListingBy};
+ghost use Rattle.outcomes.specs.Entries.{firstOf, sheetNumbersBy, goesOn, answerTo, sheetListingBy};
 use judged_sets::Owning;
 use outcomes::Asked;
 use outcomes::Wanted;
 use plane::OFFSET;
-use sheet::Ending;
+use sheet_modes::Around;
+use sheet_modes::Got;
 
-// The numbers of a sheet that is read in a mode: its numbers form as little-endian i32; the item is the number of bytes.
+// The numbers of a sheet that is read in a mode: its numbers form as little-endian i32, of a blob its reference-system number first; the item is the number of
+// bytes. 52 where the envelope around it isn't the frame.
 pub fn numbers(sheet: &[u8], mode: u32, out: &mut [u8]) -> u64
     ensures { λ r. ⌜ Answered (sheetNumbersBy mode (now (sheet .entry))) (now (out .entry)) r (now (out .exit)) ⌝ }
 {
     let mut numbers = [0u32; 16450];
-    let ending = sheet_modes::read(sheet, mode, &mut numbers);
-    match ending {
-        Ending::Refused(code, item, _) => item as u64 * 256 + code as u64,
-        Ending::Sheet(n) => {
+    match sheet_modes::read(sheet, mode, &mut numbers) {
+        Got::Refused(code, item, _) => item as u64 * 256 + code as u64,
+        Got::Sheet(n, around) => {
+            if !sheet_modes::framed(&numbers[..n], around) {
+                return 52;
+            }
+            form(&numbers, n, around, out)
+        }
+    }
+}
+
+// The numbers form: of a blob its number first.
+fn form(numbers: &[u32], n: usize, around: Around, out: &mut [u8]) -> u64
+    requires { ⌜ (n ≤ length (now numbers)) × (n ≤ 16450) ⌝ }
+    ensures { λ r. ⌜ Answered (bytes (length (firstOf (aroundOf around)) + 4 * n) (firstOf (aroundOf around) ++ flatMap heldBytes (take n (now (numbers .entry))))) (now (out .entry)) r (now (out .exit)) ⌝ }
+{
+    match around {
+        Around::Nothing => {
             if out.len() / 4 < n {
                 return 40;
             }
-            lent_numbers::write(&numbers, n, out);
+            lent_numbers::write(numbers, n, out);
             4 * (n as u64) * 256
+        }
+        Around::Header(h) => {
+            if out.len() / 4 < n + 1 {
+                return 40;
+            }
+            lent_numbers::write(numbers, n, &mut out[4..]);
+            lent_little::put(out, 0, h.number as u64, 4);
+            4 * (n as u64 + 1) * 256
         }
     }
 }

@@ -1,8 +1,11 @@
 // The entry that says where in the file: the answer of the numbers entry with room enough, and the byte position of the field at fault.
+ghost use mathlib.Core.Path.{_≡_};
+ghost use lib.ListN.{length};
 ghost use Rattle.lent.specs.Answered.{Answered};
-ghost use Rattle.outcomes.specs.Entries.{telling, sheetPosition};
-use sheet::Ending;
-use sheet_form::MEMBERS;
+ghost use Rattle.sheet_modes.specs.Held.{aroundOf};
+ghost use Rattle.outcomes.specs.Entries.{firstOf, telling, sheetPosition};
+use sheet_modes::Around;
+use sheet_modes::Got;
 
 // An answer and a byte position, each as a little-endian u64; the item is their number, 16.
 fn tell(answer: u64, position: u64, out: &mut [u8]) -> u64
@@ -16,17 +19,29 @@ fn tell(answer: u64, position: u64, out: &mut [u8]) -> u64
     4096
 }
 
+// The bytes of a blob's first number, or none.
+fn first(around: Around) -> u64
+    ensures { λ r. ⌜ r ≡ length (firstOf (aroundOf around)) ⌝ }
+{
+    match around {
+        Around::Nothing => 0,
+        Around::Header(_) => 4,
+    }
+}
+
 // The answer of the numbers entry in the mode with room enough, and the byte position of the field at fault, 0 where the sheet is read. In an unknown
-// mode the answer told is 57. Reading counts the numbers, and needs no room for them; turning rings changes no count and no refusal.
+// mode the answer told is 57, and 52 where the envelope around the sheet isn't the frame.
 pub fn position(sheet: &[u8], mode: u32, out: &mut [u8]) -> u64
     ensures { λ r. ⌜ Answered (sheetPosition mode (now (sheet .entry))) (now (out .entry)) r (now (out .exit)) ⌝ }
 {
-    if 1 < mode {
-        return tell(57, 0, out);
-    }
-    let mut none = [0u32; 1];
-    match sheet::read(sheet, MEMBERS, &mut none) {
-        Ending::Refused(code, item, at) => tell(item as u64 * 256 + code as u64, at as u64, out),
-        Ending::Sheet(n) => tell(4 * (n as u64) * 256, 0, out),
+    let mut numbers = [0u32; 16450];
+    match sheet_modes::read(sheet, mode, &mut numbers) {
+        Got::Refused(code, item, at) => tell(item as u64 * 256 + code as u64, at as u64, out),
+        Got::Sheet(n, around) => {
+            if !sheet_modes::framed(&numbers[..n], around) {
+                return tell(52, 0, out);
+            }
+            tell((first(around) + 4 * n as u64) * 256, 0, out)
+        }
     }
 }

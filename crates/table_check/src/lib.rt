@@ -72,7 +72,7 @@ fn higher(m: u32, n: u32) -> u32
 }
 
 // The frame with one corner more.
-fn widened(f: Frame, c: Corner) -> Frame
+pub fn widened(f: Frame, c: Corner) -> Frame
     requires { ⌜ FrameInRange f × InRange c ⌝ }
     ensures { λ r. ⌜ FrameInRange r × (frameHeld r ≡ wider (point c) (frameHeld f)) ⌝ }
 {

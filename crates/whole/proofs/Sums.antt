@@ -10,7 +10,7 @@ use native.Mathlib.Omega.{arith}
 use native.Mathlib.Decide.{decLe}
 use lib.Dec.{T}
 use lib.IntN.{ℤ, pos, negℤ, _+ℤ_, _-ℤ_, +ℤ-idl, +ℤ-assoc}
-use lib.ListN.{length, getD, take, length-append}
+use lib.ListN.{length, getD, take, drop, length-append}
 use Rattle.whole.specs.Sums.{All, every, any, sum, bit, count, net}
 use Rattle.whole.proofs.Int.{zify, self-neg}
 use Rattle.whole.specs.Polynomials.{_:+_, _:-_, :-_, _:=_}
@@ -86,6 +86,11 @@ module _ {A : Type 0} where
   all-take P zero l h = tt
   all-take P (suc n) [] h = tt
   all-take P (suc n) (a ∷ l) h = (h .0, all-take P n l (h .1))
+
+  pub all-drop : (P : A → Type 0) (n : ℕ) (l : List A) → All P l → All P (drop n l)
+  all-drop P zero l h = h
+  all-drop P (suc n) [] h = tt
+  all-drop P (suc n) (a ∷ l) h = all-drop P n l (h .1)
 
   pub every-all : (p : A → Bool) (P : A → Type 0) → ((a : A) → T (p a) → P a) → (l : List A) → T (every p l) → All P l
   every-all p P f [] t = tt

@@ -1,24 +1,17 @@
 -- Laws of the steps' definitions, which several proofs cite. Assumes nothing.
-use borrow.Author.Tests.{ne-eqb, eq-eqb, lt-ltb, le-ltb, le-leb, lt-leb, leb-true, leb-false, eqb-true}
-use mathlib.Core.Path.{_≡_, refl, sym, _∙_}
+use borrow.Author.Tests.{ne-eqb, eq-eqb, lt-ltb, le-ltb, le-leb, leb-true, eqb-true}
+use mathlib.Core.Path.{_≡_, refl, _∙_}
 use mathlib.Core.Bool.{Bool, true, false, _&&_, and-eq-true-iff}
 use Prim.Native.Nat.{ℕ, _+_, _-_, _≤_, _<_}
 use native.Mathlib.Omega.{arith}
 use lib.Dec.{leb, ltb, eqb}
 use Rattle.whole.proofs.Tests.{by-equal, by-cond}
+use Rattle.lent_fields.proofs.Remains.{within}
 use Rattle.wkb.specs.declared.Cursor.{Cursor}
 use Rattle.wkb_kinds.specs.declared.Slot.{Slot}
 use Rattle.wkb_kinds.specs.declared.Slot.the-variants.{Sheet, Table, Piece, Part, Member}
 use Rattle.wkb.specs.Places.{moved, geometriesToCome, headerToCome, secondToCome, thirdToCome, fourthToCome}
 use Rattle.wkb.specs.Steps.{complete, popped, withMembers, countFits, ringFits}
-
--- A test of a difference is the test of the sum.
-pub within : (t n k l : ℕ) → n ≤ l → t + n ≡ k → leb t (l - n) ≡ leb k l
-within t n k l h q = go (leb t (l - n)) refl
-  where
-    go : (b : Bool) → leb t (l - n) ≡ b → leb t (l - n) ≡ leb k l
-    go true e = let r = leb-true t (l - n) e in e ∙ sym (le-leb k l (omega arith))
-    go false e = let r = leb-false t (l - n) e in e ∙ sym (lt-leb k l (omega arith))
 
 -- Where nothing else is to come, the points decide.
 pub complete-points : (c : Cursor) → c .header ≡ false → c .second ≡ 0 → c .third ≡ 0 → c .fourth ≡ 0 → c .parts ≡ 0 → c .rings ≡ 0 → complete c ≡ eqb (c .points) 0

@@ -3,7 +3,7 @@
 
 use beside::call;
 use independent::entries::{whole, Entry};
-use independent::generate::{generate, hostile, largest, sized};
+use independent::generate::{generate, hostile, in_sound_blob, largest, sized};
 use std::hint::black_box;
 use std::time::{Duration, Instant};
 
@@ -11,7 +11,7 @@ const ROUNDS: usize = 3;
 const ROUND: Duration = Duration::from_millis(60);
 
 /// The most bytes that an entry writes.
-const ROOM: usize = sheets::WRITE_ROOM;
+const ROOM: usize = sheets::WRITE_BLOB_ROOM;
 
 fn main() {
     each_entry();
@@ -33,7 +33,8 @@ fn each_entry() {
     ];
     let judging = [Entry::OwnerSets, Entry::Owners, Entry::Boundary(1), Entry::Listing];
     let reading = [Entry::Numbers, Entry::NumbersBy(0), Entry::NumbersBy(1), Entry::Position(0), Entry::Write];
-    let entries = [&reading[..], &judging].concat();
+    let of_blobs = [Entry::NumbersBy(2), Entry::WriteBlob, Entry::OwnerSetsBy(0), Entry::OwnerSetsBy(2)];
+    let entries = [&reading[..], &judging, &of_blobs].concat();
     for (name, sheets) in &rows {
         for &entry in &entries {
             let inputs = inputs(entry, sheets);
@@ -60,11 +61,14 @@ fn growth() {
     }
 }
 
-/// What the entry is given for these sheets: the sheets, or their numbers forms.
+/// What the entry is given for these sheets: the sheets or blobs of them, or the numbers forms of these.
 fn inputs(entry: Entry, sheets: &[Vec<u8>]) -> Vec<Vec<u8>> {
-    let numbers = |sheet: &Vec<u8>| whole(Entry::Numbers, sheet).map_or(sheet.clone(), |success| success.bytes);
+    let numbers = |mode: u32, sheet: &Vec<u8>| whole(Entry::NumbersBy(mode), sheet).map_or(sheet.clone(), |success| success.bytes);
+    let blobs = || sheets.iter().map(|sheet| in_sound_blob(1, sheet));
     match entry {
-        Entry::Write => sheets.iter().map(numbers).collect(),
+        Entry::Write => sheets.iter().map(|sheet| numbers(0, sheet)).collect(),
+        Entry::WriteBlob => blobs().map(|blob| numbers(2, &blob)).collect(),
+        Entry::NumbersBy(2) | Entry::OwnerSetsBy(2) => blobs().collect(),
         _ => sheets.to_vec(),
     }
 }
@@ -75,6 +79,7 @@ fn word(entry: Entry) -> String {
     match entry {
         Entry::Numbers => "sheet_numbers".into(),
         Entry::Write => "sheet_write".into(),
+        Entry::WriteBlob => "sheet_write_blob".into(),
         Entry::OwnerSets => "sheet_owner_sets".into(),
         Entry::Owners => "sheet_owners".into(),
         Entry::Boundary(_) => "sheet_boundary".into(),

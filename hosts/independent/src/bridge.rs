@@ -18,7 +18,7 @@ use std::io::Read;
 use std::process::{Child, Command, Stdio};
 
 /// The functions' names, by the numbers that they have in a frame.
-pub const NAMES: [&str; 13] = [
+pub const NAMES: [&str; 14] = [
     "numbers",
     "write",
     "owner sets",
@@ -32,6 +32,7 @@ pub const NAMES: [&str; 13] = [
     "owners in a mode",
     "boundary in a mode",
     "listing in a mode",
+    "write blob",
 ];
 
 /// What is called.
@@ -41,6 +42,24 @@ pub enum Function {
     Entry(Entry),
     /// A wrapper's verdict in the mode of this number.
     Verdict(u32),
+}
+
+/// What a function takes.
+#[derive(Clone, Copy, PartialEq, Eq, Debug)]
+pub enum Takes {
+    /// A sheet.
+    Sheet,
+    /// A sheet's numbers.
+    Numbers,
+    /// A blob.
+    Blob,
+    /// A blob's numbers.
+    BlobNumbers,
+}
+
+impl Takes {
+    /// All of them, in this order.
+    pub const ALL: [Takes; 4] = [Takes::Sheet, Takes::Numbers, Takes::Blob, Takes::BlobNumbers];
 }
 
 impl Function {
@@ -60,12 +79,13 @@ impl Function {
             Function::Entry(Entry::OwnersBy(mode, way)) => (10, [mode, way, 0]),
             Function::Entry(Entry::BoundaryBy(mode, way, polygon)) => (11, [mode, way, polygon]),
             Function::Entry(Entry::ListingBy(mode, way)) => (12, [mode, way, 0]),
+            Function::Entry(Entry::WriteBlob) => (13, [0; 3]),
         }
     }
 
     /// The entry of this number in a frame, asked in this mode and way and for this polygon, if the function is an entry.
     pub fn entry(number: usize, [mode, way, polygon]: [u32; 3]) -> Option<Entry> {
-        let plain = [Entry::Numbers, Entry::Write, Entry::OwnerSets, Entry::Owners, Entry::Listing];
+        let plain = [Entry::Numbers, Entry::Write, Entry::WriteBlob, Entry::OwnerSets, Entry::Owners, Entry::Listing];
         let asked = [
             Entry::Boundary(polygon),
             Entry::Position(mode),
@@ -77,6 +97,16 @@ impl Function {
         ];
         let mut entries = plain.into_iter().chain(asked);
         entries.find(|entry| Function::Entry(*entry).numbers().0 == number)
+    }
+
+    /// What it takes.
+    pub fn takes(self) -> Takes {
+        match (self, self.numbers().1[0]) {
+            (Function::Entry(Entry::Write), _) => Takes::Numbers,
+            (Function::Entry(Entry::WriteBlob), _) => Takes::BlobNumbers,
+            (_, 2 | 3) => Takes::Blob,
+            _ => Takes::Sheet,
+        }
     }
 
     /// The right answer if there is room enough.

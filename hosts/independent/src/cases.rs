@@ -4,6 +4,7 @@
 //! What is said of a case stands beside it as a number of document 01's, found by reading and not by this program, which is
 //! compared with it in the tests below; the library is compared with this program on every case (`differ`).
 
+mod blobs;
 mod carried;
 mod case;
 mod coordinates;
@@ -42,6 +43,7 @@ pub fn all() -> Vec<Case> {
         numbers::cases,
         positions::cases,
         older::cases,
+        blobs::cases,
     ];
     groups.iter().for_each(|group| group(&mut cases));
     cases.0
@@ -63,8 +65,10 @@ pub fn named(name: &str) -> Vec<u8> {
 #[cfg(test)]
 mod tests {
     use super::*;
+    use crate::blob::Envelope;
     use crate::entries::{answer, packed, whole, Entry};
-    use crate::reading::Mode;
+    use crate::made::Head;
+    use crate::reading::{read, Mode};
     use crate::repair::WAYS;
     use crate::Refusal;
     use std::collections::BTreeSet;
@@ -94,22 +98,27 @@ mod tests {
         (number(0), number(8))
     }
 
-    /// Every entry that judges refuses so, one that reads only where reading does; and the listing says it.
-    fn is_refused(mode: u32, input: &[u8], refusal: Refusal) -> bool {
-        let entries = by(mode, 0);
-        let entries = if refusal.code < 10 { &entries[..] } else { &entries[1..] };
+    /// Every entry that judges refuses so, and the listing says it.
+    fn is_judged_so(mode: u32, input: &[u8], refusal: Refusal) -> bool {
         let said = format!("refused {} {}\n", refusal.code, refusal.item);
-        let read = answered(Entry::NumbersBy(mode), input).0 % 256 == 0;
-        let all = entries.iter().all(|entry| answered(*entry, input) == (packed(refusal), None));
-        all && listed(mode, 0, input) == said && read == (refusal.code >= 10)
+        let all = by(mode, 0)[1..].iter().all(|entry| answered(*entry, input) == (packed(refusal), None));
+        all && listed(mode, 0, input) == said
+    }
+
+    /// So does the one that only reads, where reading or the envelope is at fault, and else it answers.
+    fn is_refused(mode: u32, input: &[u8], refusal: Refusal) -> bool {
+        let read = if (10..50).contains(&refusal.code) { 0 } else { packed(refusal) };
+        let (numbers, _) = answered(Entry::NumbersBy(mode), input);
+        is_judged_so(mode, input, refusal) && (numbers == read || read == 0 && numbers % 256 == 0)
     }
 
     /// What is read is written by the numbers, and read as the same again, in the mode that it was read in and in the present
     /// one.
     fn is_read(mode: u32, input: &[u8]) -> bool {
+        let (write, present) = if mode < 2 { (Entry::Write, 0) } else { (Entry::WriteBlob, 2) };
         let Ok(numbers) = whole(Entry::NumbersBy(mode), input) else { return false };
-        let Ok(written) = whole(Entry::Write, &numbers.bytes) else { return false };
-        [0, mode].iter().all(|mode| whole(Entry::NumbersBy(*mode), &written.bytes).as_ref() == Ok(&numbers))
+        let Ok(written) = whole(write, &numbers.bytes) else { return false };
+        [present, mode].iter().all(|mode| whole(Entry::NumbersBy(*mode), &written.bytes).as_ref() == Ok(&numbers))
     }
 
     /// What is written is read as the same numbers.
@@ -135,9 +144,24 @@ mod tests {
                 let refusal = Refusal::new(*code, *item);
                 is_refused(mode, input, refusal) && positioned(mode, input) == (packed(refusal), *position)
             }
-            Outcome::InModes(present, older) => is_so(0, input, present) && is_so(1, input, older),
+            Outcome::InModes(present, older) => is_so(mode, input, present) && is_so(mode + 1, input, older),
             Outcome::Written => is_written(input),
             Outcome::NotWritten => answered(Entry::Write, input) == (42, None),
+            Outcome::AsBlob(outcome) => is_so(2, input, outcome),
+            Outcome::Holds(number, sheet) => {
+                let numbers = whole(Entry::Numbers, sheet).unwrap().bytes;
+                let held = [&number.to_le_bytes()[..], &numbers].concat();
+                is_read(mode, input) && answered(Entry::NumbersBy(mode), input).1 == Some(held)
+            }
+            Outcome::Unframed(code, item) => {
+                let numbers = answered(Entry::NumbersBy(mode), input);
+                numbers == (52, None) && is_judged_so(mode, input, Refusal::new(*code, *item))
+            }
+            Outcome::BlobWritten(blob) => {
+                let read = answered(Entry::NumbersBy(2), blob).1;
+                read.as_deref() == Some(input) && answered(Entry::WriteBlob, input).1.as_ref() == Some(blob)
+            }
+            Outcome::BlobNotWritten => answered(Entry::WriteBlob, input) == (42, None),
         }
     }
 
@@ -177,6 +201,42 @@ mod tests {
                 "{name}"
             );
             assert_eq!(positioned(0, &input), positioned(1, &input), "{name}");
+        }
+    }
+
+    /// A sheet's answers in a blob of its frame, in both byte orders and without an envelope, are those of the sheet, its numbers
+    /// behind the reference-system number and its positions behind the header; and written again the blob has its number.
+    #[test]
+    fn a_sheet_in_a_blob_is_answered_as_the_sheet() {
+        for (name, input) in sheets().filter(|(_, input)| input.len() < 20_000) {
+            let frame = read(&input).map_or([1.0, 2.0, 3.0, 4.0], |sheet| Envelope::of(&sheet).0);
+            for (little, envelope, older) in [(true, Some(frame), 0), (false, Some(frame), 1), (false, None, 0)] {
+                let head = Head::sound(little, -77, envelope);
+                let (blob, before) = (head.before(&input[..]), head.bytes().len() as u64);
+                for (entry, plain) in by(2 + older, 0).into_iter().zip(by(older, 0)).skip(1) {
+                    assert_eq!(whole(entry, &blob), whole(plain, &input), "{name}");
+                }
+                assert_eq!(listed(2 + older, 0, &blob), listed(older, 0, &input), "{name}");
+                let [numbers, plain] =
+                    [(2 + older, &blob), (older, &input)].map(|(mode, of)| whole(Entry::NumbersBy(mode), of));
+                let held = plain.clone().map(|plain| [&(-77_i32).to_le_bytes()[..], &plain.bytes].concat());
+                assert_eq!(numbers.map(|success| success.bytes), held, "{name}");
+                let (told, position) = positioned(older, &input);
+                let shifted = if told % 256 == 0 { (told + 4 * 256, 0) } else { (told, position + before) };
+                assert_eq!(positioned(2 + older, &blob), shifted, "{name}");
+                assert!(held.is_err() || is_read(2 + older, &blob), "{name}");
+            }
+        }
+    }
+
+    #[test]
+    fn a_blob_is_written_as_its_header_and_its_sheet() {
+        for case in all().into_iter().filter(|case| matches!(case.outcome, Outcome::Written | Outcome::NotWritten)) {
+            let given = [&[1, 2, 3, 4], &case.input[..]].concat();
+            let sheet = whole(Entry::Write, &case.input);
+            let front = |sheet: &[u8]| Head::sound(true, 0x0403_0201, Some(Envelope::of(&read(sheet).unwrap()).0));
+            let right = sheet.map(|sheet| front(&sheet.bytes).before(sheet.bytes));
+            assert_eq!(whole(Entry::WriteBlob, &given).map(|success| success.bytes), right, "{}", case.name);
         }
     }
 
@@ -221,13 +281,14 @@ mod tests {
 
     /// A request that adds a mode or a way changes these numbers.
     #[test]
-    fn two_modes_and_one_way_are_known() {
+    fn four_modes_and_one_way_are_known() {
         let clean = named("clean");
         let numbers = || (0..600).chain([1 << 16, (1 << 16) + 1, 1 << 31, (1 << 31) + 1, u32::MAX]);
         let modes = numbers().filter(|mode| answered(Entry::NumbersBy(*mode), &clean) != (57, None));
         let ways = numbers().filter(|way| answered(Entry::OwnersBy(0, *way), &clean) != (54, None));
-        assert_eq!((modes.collect(), ways.collect()), (vec![0, 1], WAYS.to_vec()));
-        assert!(numbers().all(|mode| (mode < 2) == Mode::numbered(mode).is_ok()) && WAYS == [0]);
+        assert_eq!((modes.collect(), ways.collect()), (vec![0, 1, 2, 3], WAYS.to_vec()));
+        assert!(numbers().all(|mode| (mode < 4) == Mode::numbered(mode).is_ok()) && WAYS == [0]);
+        assert!((0..4).all(|mode| Mode::numbered(mode).map(Mode::number) == Ok(mode)));
     }
 
     #[test]
@@ -235,7 +296,8 @@ mod tests {
         for input in
             [vec![], named("clean"), named("no-polygons"), named("not-carried"), named("a byte after the sheet")]
         {
-            for (mode, way) in [(7, 0), (256, 0), (1 << 31, 0), (u32::MAX, 0), (7, 2), (7, u32::MAX)] {
+            for (mode, way) in [(4, 0), (7, 0), (256, 0), (258, 0), (1 << 31, 0), (u32::MAX, 0), (7, 2), (7, u32::MAX)]
+            {
                 assert!(by(mode, way).iter().all(|entry| answer(*entry, &input, 0) == (57, None)));
                 assert_eq!(listed(mode, way, &input), "refused 57 0\n");
             }

@@ -1,8 +1,10 @@
 //! The definitions of document 01 and of the requests that landed, word by word and slow, to compare the program's ways with on
 //! small sheets.
 
+use crate::blob::{Envelope, Header};
 use crate::cases::{self, Case};
-use crate::generate::generate;
+use crate::generate::{generate, in_blob};
+use crate::made::Head;
 use crate::ownership::{judge, judge_sheet, member_double_area, Judged, PointsInside};
 use crate::plane::{double_area, sides};
 use crate::reading::{read, read_in, read_or_fault, Fault, Mode};
@@ -12,6 +14,9 @@ use crate::turning::turned;
 use crate::writing::write;
 use crate::{Member, Part, Point, Refusal, Ring, Sheet, Side, Triangle};
 use std::collections::BTreeMap;
+
+/// The mode of the older edition.
+const OLDER: Mode = Mode { older: true, blob: false };
 
 /// What a boundary gives to each ordered pair, where it isn't 0.
 type Given = BTreeMap<Side, i64>;
@@ -195,7 +200,7 @@ fn rules_and_judging_agree_on_small_sheets() {
         assert_eq!(table.as_ref().err().copied(), table_refusal(&sheet.triangles), "{name}");
         tables += 1;
         let Some(table) = table.ok().filter(|_| sheet.triangles.len() <= 9) else { continue };
-        for (mode, sheet) in [(Mode::Present, sheet.clone()), (Mode::Older, older(&sheet))] {
+        for (mode, sheet) in [(Mode::PRESENT, sheet.clone()), (OLDER, older(&sheet))] {
             let counts = compare_judgings(&name, &table, &sheet.polygons, judge_sheet(mode, &input).err());
             counts.iter().zip(&mut judgings).for_each(|(count, all)| *all += count);
             sheets += 1;
@@ -209,7 +214,7 @@ fn rules_and_judging_agree_on_small_sheets() {
 fn repair_and_areas_agree_on_small_sheets() {
     let mut sheets = 0;
     for (name, input) in inputs() {
-        let Ok(judged) = judge_sheet(Mode::Present, &input) else { continue };
+        let Ok(judged) = judge_sheet(Mode::PRESENT, &input) else { continue };
         compare_areas(&name, &judged);
         assert_eq!(repair(&judged.table, &judged.owners).is_err(), judged.sheet.polygons.is_empty(), "{name}");
         if judged.owners.len() <= 40 {
@@ -257,10 +262,11 @@ fn rings_are_turned_once() {
         count_directions(&present, &mut counts);
         let right = older(&present);
         changed += usize::from(right != present);
-        assert_eq!(read_in(Mode::Older, &input), Ok(right.clone()), "{name}");
+        let sheet = |mode: Mode, bytes: &[u8]| read_in(mode, bytes).map(|read| read.sheet);
+        assert_eq!(sheet(OLDER, &input), Ok(right.clone()), "{name}");
         assert_eq!((turned(right.clone()), older(&right)), (right.clone(), right.clone()), "{name}");
         let written = write(&right);
-        let again = [Mode::Present, Mode::Older].map(|mode| read_in(mode, &written));
+        let again = [Mode::PRESENT, OLDER].map(|mode| sheet(mode, &written));
         assert_eq!(again, [Ok(right.clone()), Ok(right)], "{name}");
     }
     assert!(changed > 1_000 && counts.iter().flatten().all(|count| *count > 300), "{changed} changed, {counts:?}");
@@ -297,4 +303,34 @@ fn positions_are_those_of_the_first_fault() {
         *times.entry((code, in_y)).or_insert(0) += 1;
     }
     assert!(times.len() == 9 && times.values().all(|count| *count > 20), "{times:?}");
+}
+
+/// A header that is read is the bytes that are made of what it says. One that is cut short ends in its field; and one that is
+/// refused otherwise is so by its first four bytes, which no header has that is read.
+#[test]
+fn headers_are_what_is_made_of_them() {
+    let mut times = [0; 3];
+    for (seed, (name, input)) in inputs().enumerate() {
+        let blob = in_blob(seed as u64, &input);
+        let front = &blob[..blob.len().min(4)];
+        let begins = (0..4).any(|flags| blob.starts_with(&[b'G', b'P', 0, flags]));
+        let kind = match Header::read(&blob) {
+            Ok(Header { number, envelope, length }) => {
+                let head = Head::sound(blob[3] % 2 == 1, number, envelope.map(|Envelope(doubles)| doubles));
+                assert!(begins && head.bytes() == blob[..length], "{name}");
+                0
+            }
+            Err(Fault { refusal: Refusal { code: 1, item: 0 }, position }) => {
+                let length = BTreeMap::from([(0, 2), (2, 1), (3, 1), (4, 4), (8, 32)])[&position];
+                assert!((position..position + length).contains(&blob.len()), "{name}");
+                1
+            }
+            Err(fault) => {
+                assert!(!begins && Header::read(front).err() == Some(fault), "{name}");
+                2
+            }
+        };
+        times[kind] += 1;
+    }
+    assert!(times.iter().all(|count| *count > 100), "{times:?} read, cut short, refused otherwise");
 }

@@ -1,7 +1,7 @@
 //! The entries: what each answers, and what it writes at the front of the lent bytes.
 
 use crate::ownership::{judge_sheet, Judged};
-use crate::reading::{read_in, read_or_fault, Mode};
+use crate::reading::{read_in, Mode};
 use crate::repair::{boundary_sides, repaired};
 use crate::{listing, writing, Refusal};
 use std::cell::OnceCell;
@@ -13,6 +13,8 @@ pub enum Entry {
     Numbers,
     /// The writer: a sheet's bytes from its numbers form.
     Write,
+    /// The blob writer: a blob's bytes from its numbers form.
+    WriteBlob,
     /// The set entry: each triangle's owners before repair.
     OwnerSets,
     /// The owner entry: each triangle's number after repair.
@@ -74,22 +76,18 @@ pub fn whole(entry: Entry, input: &[u8]) -> Result<Success, Refusal> {
 /// The input of entries, whose polygons are judged once in each mode for all of them.
 pub struct Input<'a> {
     bytes: &'a [u8],
-    present: OnceCell<Result<Judged, Refusal>>,
-    older: OnceCell<Result<Judged, Refusal>>,
+    judged: [OnceCell<Result<Judged, Refusal>>; Mode::COUNT as usize],
 }
 
 impl<'a> Input<'a> {
     /// The input of these bytes.
     pub fn new(bytes: &'a [u8]) -> Input<'a> {
-        Input { bytes, present: OnceCell::new(), older: OnceCell::new() }
+        Input { bytes, judged: Default::default() }
     }
 
     /// The sheet judged in this mode, or why there is none.
     pub fn judged(&self, mode: Mode) -> Result<&Judged, Refusal> {
-        let judged = match mode {
-            Mode::Present => &self.present,
-            Mode::Older => &self.older,
-        };
+        let judged = &self.judged[mode.number() as usize];
         judged.get_or_init(|| judge_sheet(mode, self.bytes)).as_ref().map_err(|refusal| *refusal)
     }
 
@@ -101,12 +99,13 @@ impl<'a> Input<'a> {
     /// An entry's answer if enough bytes are lent.
     pub fn whole(&self, entry: Entry) -> Result<Success, Refusal> {
         match entry {
-            Entry::Numbers => self.numbers(Mode::Present),
+            Entry::Numbers => self.numbers(Mode::PRESENT),
             Entry::Write => writing::take_numbers(self.bytes).map(|sheet| counted(writing::write(&sheet))),
-            Entry::OwnerSets => Ok(owner_sets(self.judged(Mode::Present)?)),
-            Entry::Owners => owners(self.judged(Mode::Present)?, 0),
-            Entry::Boundary(asked) => boundary(self.judged(Mode::Present)?, 0, asked),
-            Entry::Listing => Ok(counted(listing::of(self.judged(Mode::Present), 0).into_bytes())),
+            Entry::WriteBlob => writing::write_blob(self.bytes).map(counted),
+            Entry::OwnerSets => Ok(owner_sets(self.judged(Mode::PRESENT)?)),
+            Entry::Owners => owners(self.judged(Mode::PRESENT)?, 0),
+            Entry::Boundary(asked) => boundary(self.judged(Mode::PRESENT)?, 0, asked),
+            Entry::Listing => Ok(counted(listing::of(self.judged(Mode::PRESENT), 0).into_bytes())),
             Entry::Position(mode) => Ok(self.position(mode)),
             Entry::NumbersBy(mode) => self.numbers(Mode::numbered(mode)?),
             Entry::OwnerSetsBy(mode) => Ok(owner_sets(self.judged_by(mode)?)),
@@ -116,8 +115,12 @@ impl<'a> Input<'a> {
         }
     }
 
+    /// The numbers of a sheet, and before them a blob's reference-system number. After reading comes 52.
     fn numbers(&self, mode: Mode) -> Result<Success, Refusal> {
-        read_in(mode, self.bytes).map(|sheet| counted(writing::numbers(&sheet)))
+        let read = read_in(mode, self.bytes).map_err(|fault| fault.refusal)?;
+        read.check_envelope()?;
+        let number = read.header.map_or(Vec::new(), |header| header.number.to_le_bytes().to_vec());
+        Ok(counted([number, writing::numbers(&read.sheet)].concat()))
     }
 
     /// The packed answer that the numbers entry gives in this mode with room enough, and the position of the field at fault
@@ -127,8 +130,7 @@ impl<'a> Input<'a> {
             Ok(success) => success.item * 256,
             Err(refusal) => packed(refusal),
         };
-        let known = Mode::numbered(mode).is_ok();
-        let fault = read_or_fault(self.bytes).err().filter(|_| known);
+        let fault = Mode::numbered(mode).ok().and_then(|mode| read_in(mode, self.bytes).err());
         let position = fault.map_or(0, |fault| fault.position as u64);
         counted([answer, position].map(u64::to_le_bytes).concat())
     }

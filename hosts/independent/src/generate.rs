@@ -1,5 +1,6 @@
 //! Test inputs, valid and damaged. Each seed gives one input, always the same.
 
+mod blobs;
 mod damage;
 mod dice;
 mod draft;
@@ -33,6 +34,26 @@ pub fn generate(seed: u64) -> Vec<u8> {
 /// The writer's input for this seed: the numbers form of a generated sheet, valid or damaged.
 pub fn generate_numbers(seed: u64) -> Vec<u8> {
     numbers::generate(&mut Dice::new(seed ^ 0x6e75_6d62_6572_7321))
+}
+
+/// The blob writer's input for this seed: a number before the writer's, which now and then is cut short.
+pub fn generate_blob_numbers(seed: u64) -> Vec<u8> {
+    let mut dice = Dice::new(seed ^ 0x626c_6f62_6e75_6d73);
+    let number = dice.next().to_le_bytes();
+    match dice.below(20) {
+        0 => number[..dice.below(5)].to_vec(),
+        _ => [&number[..4], &generate_numbers(seed)].concat(),
+    }
+}
+
+/// These bytes, a sheet's or nearly, in a blob whose header is as it should be.
+pub fn in_sound_blob(seed: u64, sheet: &[u8]) -> Vec<u8> {
+    blobs::sound(&mut Dice::new(seed ^ 0x736f_756e_6462_6c62), sheet)
+}
+
+/// These bytes, a sheet's or nearly, in a blob whose header, mostly, is as it should be.
+pub fn in_blob(seed: u64, sheet: &[u8]) -> Vec<u8> {
+    blobs::mixed(&mut Dice::new(seed ^ 0x6d69_7865_6462_6c62), sheet)
 }
 
 /// One of the largest sheets: 1,024 triangles, 64 polygons, 4,096 points.
@@ -198,6 +219,26 @@ mod tests {
         assert_eq!(longest(Entry::Owners), Some(1_024));
         assert_eq!(longest(Entry::Boundary(1)), Some(16 * 1_845));
         assert_eq!(longest(Entry::Listing), Some(3_328));
+        let blobs: Vec<Vec<u8>> = (0..24).map(|place| in_sound_blob(place, &extreme(place))).collect();
+        let numbers: Vec<Vec<u8>> = blobs.iter().map(|blob| whole(Entry::NumbersBy(2), blob).unwrap().bytes).collect();
+        let written = numbers.iter().map(|numbers| whole(Entry::WriteBlob, numbers).unwrap().bytes.len());
+        assert_eq!(blobs.iter().map(Vec::len).max(), Some(185_978));
+        assert_eq!(numbers.iter().map(Vec::len).max(), Some(65_804));
+        assert_eq!(written.max(), Some(158_330));
+    }
+
+    /// How often each of these codes is given, at least.
+    #[test]
+    fn every_code_of_blobs_occurs() {
+        let mut times = std::collections::BTreeMap::new();
+        for seed in 0..6_000 {
+            let blob = in_blob(seed, &generate(seed));
+            *times.entry(answer(Entry::OwnerSetsBy(2 + seed as u32 % 2), &blob, usize::MAX).0 % 256).or_insert(0) += 1;
+            *times.entry(answer(Entry::WriteBlob, &generate_blob_numbers(seed), usize::MAX).0 % 256).or_insert(0) += 1;
+        }
+        let all = [0, 1, 2, 3, 4, 5, 6, 7, 8, 10, 11, 12, 20, 21, 42, 50, 51, 52];
+        assert_eq!(times.keys().copied().collect::<Vec<u64>>(), all);
+        assert!([50, 51, 52].iter().all(|code| times[code] > 100), "{times:?}");
     }
 
     #[test]
@@ -212,7 +253,7 @@ mod tests {
             }
             codes.insert(answer(Entry::Write, &generate_numbers(seed), 1_000).0 % 256);
         }
-        let all = [0, 1, 2, 3, 4, 5, 6, 7, 8, 10, 11, 12, 20, 21, 30, 40, 41, 42, 54, 57];
+        let all = [0, 1, 2, 3, 4, 5, 6, 7, 8, 10, 11, 12, 20, 21, 30, 40, 41, 42, 50, 54, 57];
         assert_eq!(codes.into_iter().collect::<Vec<u64>>(), all);
         assert!(without_ground > 240, "{without_ground} sheets refused by 21");
     }

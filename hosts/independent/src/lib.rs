@@ -7,6 +7,7 @@
 
 #![warn(missing_docs)]
 
+pub mod blob;
 pub mod bridge;
 pub mod cases;
 pub mod entries;

@@ -11,7 +11,7 @@ pub const LONGEST_INPUT: usize = 65_536;
 
 /// What is printed for this sheet. The input is taken whole: cutting it is the caller's.
 pub fn listing(bytes: &[u8]) -> String {
-    of(judge_sheet(Mode::Present, bytes).as_ref().map_err(|refusal| *refusal), 0)
+    of(judge_sheet(Mode::PRESENT, bytes).as_ref().map_err(|refusal| *refusal), 0)
 }
 
 /// What is printed for a judged sheet and the way of this number, or for a refusal.

@@ -1,4 +1,5 @@
-//! Geometries made one by one, each in a byte order of its own, within document 01's limits or not, and their bytes.
+//! Geometries made one by one, each in a byte order of its own, within document 01's limits or not, and their bytes; and headers of
+//! blobs.
 
 use crate::reading::{COLLECTION, MULTI_POLYGON, POLYGON, TIN, TRIANGLE};
 
@@ -199,5 +200,41 @@ pub fn double_bytes(double: f64, little: bool) -> [u8; 8] {
         double.to_le_bytes()
     } else {
         double.to_be_bytes()
+    }
+}
+
+/// A blob's header as it will stand in bytes, within the standard or not.
+#[derive(Clone, Debug)]
+pub struct Head {
+    /// The letters.
+    pub letters: [u8; 2],
+    /// The version.
+    pub version: u8,
+    /// The flags, whose bit 0 is the byte order of what follows them.
+    pub flags: u8,
+    /// The reference-system number.
+    pub number: i32,
+    /// The envelope, there or not, whatever the flags say.
+    pub envelope: Option<[f64; 4]>,
+}
+
+impl Head {
+    /// A header in this byte order, with this envelope or none.
+    pub fn sound(little: bool, number: i32, envelope: Option<[f64; 4]>) -> Head {
+        let flags = u8::from(little) | u8::from(envelope.is_some()) << 1;
+        Head { letters: *b"GP", version: 0, flags, number, envelope }
+    }
+
+    /// The bytes.
+    pub fn bytes(&self) -> Vec<u8> {
+        let little = self.flags & 1 == 1;
+        let front = [self.letters[0], self.letters[1], self.version, self.flags];
+        let doubles = self.envelope.iter().flatten().flat_map(|double| double_bytes(*double, little));
+        front.into_iter().chain(number_bytes(self.number as u32, little)).chain(doubles).collect()
+    }
+
+    /// The blob with these bytes behind the header.
+    pub fn before(&self, sheet: impl Into<Vec<u8>>) -> Vec<u8> {
+        [self.bytes(), sheet.into()].concat()
     }
 }

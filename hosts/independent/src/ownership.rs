@@ -23,11 +23,13 @@ pub struct Judged {
     pub owners: Vec<u64>,
 }
 
-/// Reads a sheet in this mode, checks its table, and judges its polygons in number order: refusals 1 to 8, 10, 11, 12, and 20 or 21 with
-/// the number of the first polygon that is refused.
+/// Reads a sheet in this mode, checks its table and a blob's envelope, and judges its polygons in number order: refusals 50, 51, 1 to 8,
+/// 10, 11, 12, 52, and 20 or 21 with the number of the first polygon that is refused.
 pub fn judge_sheet(mode: Mode, bytes: &[u8]) -> Result<Judged, Refusal> {
-    let sheet = read_in(mode, bytes)?;
-    let table = Table::check(&sheet.triangles)?;
+    let read = read_in(mode, bytes).map_err(|fault| fault.refusal)?;
+    let table = Table::check(&read.sheet.triangles)?;
+    read.check_envelope()?;
+    let sheet = read.sheet;
     let inside = PointsInside::of(&table.triangles);
     let mut owners = vec![0; table.triangles.len()];
     for (place, member) in sheet.polygons.iter().enumerate() {

@@ -1,6 +1,7 @@
 //! From bytes to a sheet in numbers, with refusals 1 to 8, left to right and stopping at the first fault, whose position is
 //! told with it.
 
+use crate::blob::Header;
 use crate::turning::turned;
 use crate::{limits, Part, Point, Refusal, Ring, Sheet, Triangle};
 
@@ -16,29 +17,55 @@ pub const TIN: u32 = 16;
 pub const TRIANGLE: u32 = 17;
 
 /// How a sheet is read.
-#[derive(Clone, Copy, PartialEq, Eq, Debug)]
-pub enum Mode {
-    /// As document 01 says.
-    Present,
-    /// As a sheet of the older edition: the rings of its polygons are turned once all is read.
-    Older,
+#[derive(Clone, Copy, PartialEq, Eq, Debug, Default)]
+pub struct Mode {
+    /// Whether it is of the older edition: the rings of its polygons are turned once all is read.
+    pub older: bool,
+    /// Whether it stands in a GeoPackage's blob, behind a header.
+    pub blob: bool,
 }
 
 impl Mode {
+    /// As document 01 says.
+    pub const PRESENT: Mode = Mode { older: false, blob: false };
+
+    /// How many modes there are.
+    pub const COUNT: u32 = 4;
+
     /// The mode of this number, or 57.
     pub fn numbered(number: u32) -> Result<Mode, Refusal> {
-        match number {
-            0 => Ok(Mode::Present),
-            1 => Ok(Mode::Older),
-            _ => Err(Refusal::new(57, 0)),
+        if number >= Mode::COUNT {
+            return Err(Refusal::new(57, 0));
         }
+        Ok(Mode { older: number % 2 == 1, blob: number / 2 == 1 })
+    }
+
+    /// The mode's number.
+    pub fn number(self) -> u32 {
+        u32::from(self.older) + 2 * u32::from(self.blob)
+    }
+}
+
+/// What is read: a sheet, with the header before it where it is a blob's.
+#[derive(Clone, Debug)]
+pub struct Read {
+    /// The header.
+    pub header: Option<Header>,
+    /// The sheet.
+    pub sheet: Sheet,
+}
+
+impl Read {
+    /// 52 if there is an envelope that isn't that of the sheet's frame.
+    pub fn check_envelope(&self) -> Result<(), Refusal> {
+        self.header.map_or(Ok(()), |header| header.check(&self.sheet))
     }
 }
 
 /// Why a sheet can't be read, and where: the position of the field at fault, counted from 0 at the first byte. It is that of
 /// the field's first byte, which is the number of bytes where none of the field is there; of a point that isn't given in
 /// coordinates it is that of its x, or of its y if x is a coordinate; of an unclosed ring that of its last point; and of
-/// bytes after the sheet that of their first.
+/// bytes after the sheet that of their first. It is 0 for 50 and 51.
 #[derive(Clone, Copy, PartialEq, Eq, Debug)]
 pub struct Fault {
     /// Code and item.
@@ -52,13 +79,13 @@ pub fn read(bytes: &[u8]) -> Result<Sheet, Refusal> {
     read_or_fault(bytes).map_err(|fault| fault.refusal)
 }
 
-/// Reads a whole sheet in this mode, or gives the first refusal, which is the same in every mode.
-pub fn read_in(mode: Mode, bytes: &[u8]) -> Result<Sheet, Refusal> {
-    let sheet = read(bytes)?;
-    Ok(match mode {
-        Mode::Present => sheet,
-        Mode::Older => turned(sheet),
-    })
+/// Reads a whole sheet in this mode, or gives the first fault. The positions of a blob's are counted from its first byte.
+pub fn read_in(mode: Mode, bytes: &[u8]) -> Result<Read, Fault> {
+    let header = if mode.blob { Some(Header::read(bytes)?) } else { None };
+    let begins = header.map_or(0, |header| header.length);
+    let within = |fault: Fault| Fault { position: begins + fault.position, ..fault };
+    let sheet = read_or_fault(&bytes[begins..]).map_err(within)?;
+    Ok(Read { header, sheet: if mode.older { turned(sheet) } else { sheet } })
 }
 
 /// Reads a whole sheet, or gives the first fault.

@@ -1,5 +1,6 @@
-//! The numbers form, and the writer that takes it.
+//! The numbers form, and the writers that take it.
 
+use crate::blob;
 use crate::reading::{COLLECTION, MULTI_POLYGON, POLYGON, TIN, TRIANGLE};
 use crate::{limits, Member, Part, Point, Refusal, Ring, Sheet, Triangle};
 
@@ -104,6 +105,13 @@ impl Taker<'_> {
         let ring = (0..points).map(|_| self.point()).collect::<Option<Ring>>()?;
         (ring.first() == ring.last()).then_some(ring)
     }
+}
+
+/// The blob that these numbers make up, the reference-system number before those of the sheet, or 42.
+pub fn write_blob(bytes: &[u8]) -> Result<Vec<u8>, Refusal> {
+    let (number, rest) = bytes.split_first_chunk::<4>().ok_or(Refusal::new(42, 0))?;
+    let sheet = take_numbers(rest)?;
+    Ok([blob::header(i32::from_le_bytes(*number), &sheet), write(&sheet)].concat())
 }
 
 /// The sheet in WKB: byte order 1 throughout, pieces of type 17, a Polygon where a member has one polygon and else

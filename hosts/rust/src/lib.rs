@@ -20,6 +20,7 @@ extern "C" {
     fn sheet_owners_by(sheet: *const u8, sheet_len: usize, mode: u32, way: u32, out: *mut u8, out_len: usize) -> u64;
     fn sheet_boundary_by(sheet: *const u8, sheet_len: usize, mode: u32, way: u32, polygon: u32, out: *mut u8, out_len: usize) -> u64;
     fn sheet_listing_by(sheet: *const u8, sheet_len: usize, mode: u32, way: u32, out: *mut u8, out_len: usize) -> u64;
+    fn sheet_write_blob(numbers: *const u8, numbers_len: usize, out: *mut u8, out_len: usize) -> u64;
 }
 
 /// Room that is always enough for the numbers form of a sheet.
@@ -37,6 +38,11 @@ pub const LISTING_ROOM: usize = 6_600;
 /// Room for the position of a sheet's fault, with the answer that it belongs to.
 pub const POSITION_ROOM: usize = 16;
 
+/// Room that is always enough for the numbers form of a blob.
+pub const BLOB_NUMBERS_ROOM: usize = 65_804;
+/// Room that is always enough for a written blob.
+pub const WRITE_BLOB_ROOM: usize = 158_330;
+
 /// Free stack that a calling thread needs, in bytes.
 pub const STACK: usize = 524_288;
 /// So many bytes of a file are always enough to read the sheet in it: what the library answers on the first so many of longer ones is what it answers on all.
@@ -52,6 +58,34 @@ pub enum Mode {
     /// As one of the older edition, which has rings in either direction: the first ring of each part of a polygon is turned round if its double area is
     /// negative, every later one if its own is positive.
     Older = 1,
+    /// As the geometry blob of a GeoPackage table: a header, and the sheet behind it.
+    Blob = 2,
+    /// As such a blob whose sheet is of the older edition.
+    OlderBlob = 3,
+}
+
+impl Mode {
+    /// Is a blob read, and not a sheet alone?
+    pub fn is_blob(self) -> bool {
+        matches!(self, Mode::Blob | Mode::OlderBlob)
+    }
+
+    /// The same for sheets of the older edition.
+    pub fn older(self) -> Mode {
+        if self.is_blob() {
+            Mode::OlderBlob
+        } else {
+            Mode::Older
+        }
+    }
+
+    /// The same for blobs.
+    pub fn of_blobs(self) -> Mode {
+        match self {
+            Mode::Present | Mode::Blob => Mode::Blob,
+            Mode::Older | Mode::OlderBlob => Mode::OlderBlob,
+        }
+    }
 }
 
 /// How gaps are filled.
@@ -179,6 +213,10 @@ pub mod lent {
     pub fn listing_by(sheet: &[u8], mode: u32, way: u32, out: &mut [u8]) -> Result<u64, Refusal> {
         call(out, |p, n| unsafe { sheet_listing_by(sheet.as_ptr(), sheet.len(), mode, way, p, n) })
     }
+    /// The bytes of the blob that a blob's numbers form makes up; the item is their number.
+    pub fn write_blob(numbers: &[u8], out: &mut [u8]) -> Result<u64, Refusal> {
+        call(out, |p, n| unsafe { sheet_write_blob(numbers.as_ptr(), numbers.len(), p, n) })
+    }
 }
 
 /// A point, x and y in millimetres.
@@ -214,10 +252,18 @@ mod typed {
         bytes.chunks_exact(4).map(|b| i32::from_le_bytes(b.try_into().unwrap())).collect()
     }
 
-    pub fn numbers(entry: impl FnOnce(&mut [u8]) -> Item) -> Result<Vec<i32>, Refusal> {
-        let mut out = vec![0; NUMBERS_ROOM];
+    pub fn numbers(room: usize, entry: impl FnOnce(&mut [u8]) -> Item) -> Result<Vec<i32>, Refusal> {
+        let mut out = vec![0; room];
         let bytes = entry(&mut out)? as usize;
         Ok(words(&out[..bytes]))
+    }
+
+    pub fn written(room: usize, numbers: &[i32], entry: impl FnOnce(&[u8], &mut [u8]) -> Item) -> Result<Vec<u8>, Refusal> {
+        let given: Vec<u8> = numbers.iter().flat_map(|n| n.to_le_bytes()).collect();
+        let mut out = vec![0; room];
+        let bytes = entry(&given, &mut out)? as usize;
+        out.truncate(bytes);
+        Ok(out)
     }
 
     pub fn owner_sets(entry: impl FnOnce(&mut [u8]) -> Item) -> Result<Vec<u64>, Refusal> {
@@ -258,16 +304,17 @@ mod typed {
 /// The sheet in numbers: the triangle count and six numbers each, the polygon count, then for each its parts, rings and points, every count before
 /// what it counts, rings closed.
 pub fn numbers(sheet: &[u8]) -> Result<Vec<i32>, Refusal> {
-    typed::numbers(|out| lent::numbers(sheet, out))
+    typed::numbers(NUMBERS_ROOM, |out| lent::numbers(sheet, out))
 }
 
 /// The bytes of the sheet that the numbers make up, in one normal form.
 pub fn write(numbers: &[i32]) -> Result<Vec<u8>, Refusal> {
-    let given: Vec<u8> = numbers.iter().flat_map(|n| n.to_le_bytes()).collect();
-    let mut out = vec![0; WRITE_ROOM];
-    let bytes = lent::write(&given, &mut out)? as usize;
-    out.truncate(bytes);
-    Ok(out)
+    typed::written(WRITE_ROOM, numbers, lent::write)
+}
+
+/// The blob that the numbers make up: the reference-system number first, then those of the sheet. [`numbers_by`] in [`Mode::Blob`] gives them back.
+pub fn write_blob(numbers: &[i32]) -> Result<Vec<u8>, Refusal> {
+    typed::written(WRITE_BLOB_ROOM, numbers, lent::write_blob)
 }
 
 /// The owners of each triangle before repair: bit k - 1 stands for polygon k.
@@ -300,9 +347,9 @@ pub fn verdict(sheet: &[u8]) -> Verdict {
     typed::verdict(owner_sets(sheet))
 }
 
-/// [`numbers`] in a mode.
+/// [`numbers`] in a mode. The first number of a blob is its reference-system number.
 pub fn numbers_by(sheet: &[u8], mode: Mode) -> Result<Vec<i32>, Refusal> {
-    typed::numbers(|out| lent::numbers_by(sheet, mode as u32, out))
+    typed::numbers(BLOB_NUMBERS_ROOM, |out| lent::numbers_by(sheet, mode as u32, out))
 }
 
 /// [`owner_sets`] in a mode.

@@ -1,5 +1,5 @@
 //! The safe functions on the example sheets, whose listings are stored beside them.
-use sheets::{boundary, lent, listing, numbers, owner_sets, owners, position, verdict, write};
+use sheets::{boundary, lent, listing, numbers, owner_sets, owners, position, verdict, write, write_blob};
 use sheets::{boundary_by, listing_by, numbers_by, owner_sets_by, owners_by, position_by, verdict_by};
 use sheets::{Mode, Position, Refusal, Verdict, Way};
 
@@ -51,7 +51,7 @@ fn each_refusal_says_what_it_is_about() {
         numbers(&sheet[..600]).unwrap_err().to_string(),
         "the bytes end too early for the next field of member 1, the triangle table (code 1, item 1)"
     );
-    let codes = [1, 2, 3, 4, 5, 6, 7, 8, 10, 11, 12, 20, 21, 30, 40, 41, 42, 54, 57];
+    let codes = [1, 2, 3, 4, 5, 6, 7, 8, 10, 11, 12, 20, 21, 30, 40, 41, 42, 50, 51, 52, 54, 57];
     let sentences: std::collections::BTreeSet<String> = codes.iter().map(|&code| Refusal { code, item: 7 }.sentence()).collect();
     assert_eq!(sentences.len(), codes.len());
     assert!(sentences.iter().all(|sentence| !sentence.contains("has no refusal")));
@@ -116,6 +116,66 @@ fn a_sheet_of_the_older_edition_is_read_with_its_rings_turned() {
         assert_eq!(position_by(older, Mode::Older), position(&sheet));
         assert_eq!(position_by(&older[..819], Mode::Older).byte, 804);
     }
+}
+
+/// A blob's header: the flags, the number and the envelope little-endian.
+fn header(flags: u8, number: i32, envelope: &[f64]) -> Vec<u8> {
+    let doubles = envelope.iter().flat_map(|double| double.to_le_bytes());
+    [b'G', b'P', 0, flags].into_iter().chain(number.to_le_bytes()).chain(doubles).collect()
+}
+
+#[test]
+fn a_blob_is_written_and_read_with_its_number() {
+    let sheet = example("strip.wkb");
+    for number in [4_326, 0, -1, i32::MIN] {
+        let of_blob = [vec![number], numbers(&sheet).unwrap()].concat();
+        let blob = write_blob(&of_blob).unwrap();
+        assert_eq!(blob, [header(3, number, &[0.0, 8.0, 0.0, 4.0]), sheet.clone()].concat());
+        assert_eq!(numbers_by(&blob, Mode::Blob), Ok(of_blob.clone()));
+        assert_eq!(numbers_by(&[header(1, number, &[]), sheet.clone()].concat(), Mode::OlderBlob), Ok(of_blob));
+    }
+    assert_eq!([write_blob(&[]), write_blob(&[4_326]), write_blob(&[7, 2])], [(); 3].map(|()| Err(Refusal { code: 42, item: 0 })));
+}
+
+#[test]
+fn a_blob_is_answered_as_the_sheet_in_it() {
+    let sheet = example("clean.wkb");
+    let (_, older) = clockwise(&sheet);
+    let front = header(3, 25_832, &[-0.0, 8.0, 0.0, 4.0]);
+    let (blob, older_blob) = ([&front[..], &sheet].concat(), [&front[..], &older].concat());
+    assert_eq!(verdict_by(&older_blob, Mode::Blob), Verdict::Refused(Refusal { code: 20, item: 1 }));
+    for (blob, mode) in [(&blob, Mode::Blob), (&blob, Mode::OlderBlob), (&older_blob, Mode::OlderBlob)] {
+        assert_eq!(owner_sets_by(blob, mode), owner_sets(&sheet));
+        assert_eq!(owners_by(blob, mode, Way::Priority), owners(&sheet));
+        assert_eq!(boundary_by(blob, mode, Way::Priority, 2), boundary(&sheet, 2));
+        assert_eq!(listing_by(blob, mode, Way::Priority), listing(&sheet));
+        assert_eq!(verdict_by(blob, mode), Verdict::Clean);
+        assert_eq!(position_by(blob, mode), Position { answer: Ok(308), byte: 0 });
+        assert_eq!(position_by(&blob[..859], mode), Position { answer: Err(Refusal { code: 1, item: 3 }), byte: 844 });
+    }
+}
+
+#[test]
+fn a_blob_with_another_header_or_envelope_is_refused() {
+    let sheet = example("clean.wkb");
+    let refused = |code: u8| Verdict::Refused(Refusal { code, item: 0 });
+    let frame = [0.0, 8.0, 0.0, 4.0];
+    let judged = |header: Vec<u8>| verdict_by(&[header, sheet.clone()].concat(), Mode::Blob);
+    assert_eq!([0, 16, 32, 64, 128].map(|bit| judged(header(3 | bit, 1, &frame)) == refused(50)), [false, true, true, true, true]);
+    assert_eq!([2, 3, 4, 5, 6, 7].map(|kind| judged(header(1 | kind << 1, 1, &frame))), [refused(51); 6]);
+    assert_eq!(judged(header(3, 1, &[0.0, 8.0, 0.0, f64::NAN])), refused(52));
+    assert_eq!(numbers_by(&[header(3, 1, &[0.0, 4.0, 0.0, 8.0]), sheet.clone()].concat(), Mode::Blob), Err(Refusal { code: 52, item: 0 }));
+    assert_eq!(verdict_by(&sheet, Mode::Blob), refused(50));
+    assert_eq!(verdict_by(&[], Mode::Blob), refused(1));
+    assert_eq!(position_by(&header(3, 1, &frame)[..39], Mode::Blob).byte, 8);
+}
+
+#[test]
+fn modes_of_blobs_and_of_the_older_edition_combine() {
+    use Mode::{Blob, Older, OlderBlob, Present};
+    assert_eq!([Present, Older, Blob, OlderBlob].map(Mode::older), [Older, Older, OlderBlob, OlderBlob]);
+    assert_eq!([Present, Older, Blob, OlderBlob].map(Mode::of_blobs), [Blob, OlderBlob, Blob, OlderBlob]);
+    assert_eq!([Present, Older, Blob, OlderBlob].map(Mode::is_blob), [false, false, true, true]);
 }
 
 #[test]

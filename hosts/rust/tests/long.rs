@@ -1,5 +1,5 @@
 //! What the library answers on the first READ_CAP bytes of a longer input is what it answers on all of it.
-use sheets::{listing, numbers, position, verdict, Refusal, Verdict, READ_CAP};
+use sheets::{listing, numbers, numbers_by, position, position_by, verdict, verdict_by, Mode, Refusal, Verdict, READ_CAP};
 
 const LONGEST: usize = 185_938;
 const FARTHEST: usize = 185_978;
@@ -45,6 +45,25 @@ fn the_longest_sheet_is_read_and_the_farthest_fault_is_seen() {
     assert_eq!(verdict(&fault[..FARTHEST - 1]), Verdict::Refused(Refusal { code: 1, item: 65 }));
     assert_eq!([position(&fault).byte, position(&fault[..FARTHEST - 1]).byte], [FARTHEST as u64 - 4; 2]);
     assert_eq!((position(&sheet).byte, position(&sheet[..LONGEST - 1]).byte), (0, LONGEST as u64 - 16));
+}
+
+/// A blob with the longest header, whose envelope is the frame of these sheets.
+fn in_blob(sheet: &[u8]) -> Vec<u8> {
+    let envelope = [0.0_f64, 512.0, 0.0, 1.0].into_iter().flat_map(f64::to_le_bytes);
+    b"GP\0\x03\xe6\x10\0\0".iter().copied().chain(envelope).chain(sheet.iter().copied()).collect()
+}
+
+#[test]
+fn the_longest_blob_is_read_and_its_farthest_fault_is_seen() {
+    let (blob, fault) = (in_blob(&longest()), in_blob(&farthest()));
+    assert_eq!((blob.len(), verdict_by(&blob, Mode::Blob)), (LONGEST + 40, Verdict::Clean));
+    assert_eq!((fault.len(), verdict_by(&fault, Mode::Blob)), (FARTHEST + 40, Verdict::Refused(Refusal { code: 4, item: 65 })));
+    for (beginning, byte) in [(blob, LONGEST as u64 + 40), (fault, FARTHEST as u64 + 36)] {
+        let input = [beginning, vec![1; 2 * READ_CAP]].concat();
+        let first = &input[..READ_CAP];
+        assert_eq!((numbers_by(&input, Mode::Blob), verdict_by(&input, Mode::Blob)), (numbers_by(first, Mode::Blob), verdict_by(first, Mode::Blob)));
+        assert_eq!([position_by(&input, Mode::Blob), position_by(first, Mode::OlderBlob)].map(|position| position.byte), [byte; 2]);
+    }
 }
 
 #[test]

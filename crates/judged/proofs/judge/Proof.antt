@@ -6,6 +6,8 @@ use borrow.Author.Needs.{needs}
 use denote.Ref.{now}
 use lib.ListN.{length, getD, take, drop, replicate}
 use lib.Seq.{length-take-le}
+use Rattle.sheet_modes.specs.Modes.{framed}
+use Rattle.sheet_modes.specs.Held.{aroundOf}
 use Rattle.judged_sets.proofs.Standing.{first-count}
 use Rattle.judged.proofs.Judging.{on-fronts}
 use Rattle.judged.proofs.judge.Statement.{statement}
@@ -50,8 +52,8 @@ returns c = λ n held.
     let d = judge-in-call c in
     let o = entry (d .before) in
     let e : length (n .table) ≡ many o = omega (arith, first-count n (now (o .args .numbers)) held .1) in
-    let k = d .judge-in .kept .1 .1 .1 .1 in
-    on-fronts n (d .judge-in .result) _ _ (drop (3 * many o) (now (o .args .opposite))) (drop (many o) (now (o .args .sets))) (d .judge-in .ensures n held (e ∙ sym (sets-front o)))
+    let k = d .judge-in .kept .1 .1 .1 .1 .1 in
+    on-fronts (framed (aroundOf (o .args .around)) n) n (d .judge-in .result) _ _ (drop (3 * many o) (now (o .args .opposite))) (drop (many o) (now (o .args .sets))) (d .judge-in .ensures n held (e ∙ sym (sets-front o)))
     (k .0 ∙ opposite-front o ∙ ap (λ t. 3 * t) (sym e)) (k .1 .0 ∙ sets-front o ∙ sym e)
 
 pub judge-spec : {M : Type 1} → statement M

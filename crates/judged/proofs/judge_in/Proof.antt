@@ -1,9 +1,12 @@
--- `judged::judge_in` meets its contract: the table is checked, and then the polygons are judged. Assumes nothing.
+-- `judged::judge_in` meets its contract: the table is checked, then the envelope is compared with its frame, and then the polygons are judged. Assumes nothing.
 use mathlib.Core.Path.{_≡_, refl, sym, _∙_, ap, subst}
+use mathlib.Core.Bool.{Bool}
 use mathlib.Core.List.{List}
+use mathlib.Core.Logic.{inl, inr}
 use Prim.Native.Nat.{ℕ, _*_, _≤_}
 use native.Mathlib.Omega.{arith}
 use borrow.Author.Needs.{needs}
+use borrow.Author.Tests.{not-true, not-false}
 use denote.Ref.{now}
 use lib.ListN.{length, take}
 use lib.Seq.{length-take-le}
@@ -17,9 +20,11 @@ use Rattle.table_count.specs.Indexed.{Indexed}
 use Rattle.table_check.specs.Checking.{checkedOf}
 use Rattle.sheet_form.specs.Numbers.{Sheet, members}
 use Rattle.sheet.specs.Held.{SheetHeld}
+use Rattle.sheet_modes.specs.Modes.{framed}
+use Rattle.sheet_modes.specs.Held.{aroundOf}
 use Rattle.judged_table.specs.Checked.{TableChecked}
 use Rattle.judged_sets.specs.Owning.{OneEach}
-use Rattle.judged.proofs.Stages.{checked}
+use Rattle.judged.proofs.Stages.{checked, framed-value, framed-refused}
 use Rattle.judged.proofs.Judging.{table-refused, polygons-judged}
 use Rattle.judged.proofs.judge_in.Statement.{statement}
 use Rattle.judged.proofs.judge_in.Tie as tie
@@ -60,9 +65,26 @@ check-requires c κs =
 indexed : (c : tie.After-k) → let l = check-call c .check .last .1 in (c .k .given .0 .0 ≤ length (l .1 .0)) × Indexed (l .0) (take (c .k .given .0 .0) (l .1 .0)) (l .1 .1 .0) (l .1 .1 .1 .0)
 indexed c = let d = check-call c in let p = start d .pre .0 in told d (p .0) (p .1) (p .2) .indexed (c .k .given .0 .0) (c .k .given .1)
 
+-- The envelope as it is compared.
+abbrev whole : tie.Start → Sheet → Bool
+whole o n = framed (aroundOf (o .args .around)) n
+
+-- ---- past the comparison
+abbrev passing : tie.After-framed → tie.After-k
+passing c = c .before .before
+
+abbrev entry : tie.After-framed → tie.Start
+entry c = start (check-call (passing c))
+
+compared : (c : tie.After-framed) (n : Sheet) → SheetHeld members n (now (entry c .args .numbers)) → c .framed .result ≡ whole (entry c) n
+compared c n held = c .framed .ensures members n held
+
+framed-requires : tie.Need-framed-requires
+framed-requires c κs = let p = start (check-call (c .before)) .pre .0 in (members, p .0, p .1)
+
 judge-all-requires : tie.Need-judge-all-requires
 judge-all-requires c κs =
-    let k = c .before .before .before .before .before in
+    let k = passing (c .before .before .before .before .before) in
     let d = check-call k in
     let p = start d .pre .0 in
     let t = told d (p .0) (p .1) (p .2) in
@@ -70,19 +92,31 @@ judge-all-requires c κs =
 
 returns : tie.Need-returns
 returns c = λ n held e.
-    let r = c .before .code .given in
-    let d = c .before .before .before .before .before .before .before .before .before .before .before in
-    table-refused n (r .0 .0) (r .0 .1 .0) _ _ (sym (ap checkedOf (r .1)) ∙ told d n held e .is)
+    let o = c .before in
+    let f = whole (entry o) n in
+    let b = sym (compared o n held) ∙ not-true (o .framed .result) (c .if1 .taken) in
+    table-refused f n 52 0 _ _ (sym (framed-refused f n 52 0 .1 (inr (sym (passed (passing o) n held e), b, refl, refl))))
 
 returns-2 : tie.Need-returns-2
 returns-2 c = λ n held e.
+    let r = c .before .code .given in
+    let d = c .before .before .before .before .before .before .before .before .before .before .before in
+    let f = whole (start d) n in
+    table-refused f n (r .0 .0) (r .0 .1 .0) _ _ (sym (framed-refused f n _ _ .1 (inl (sym (sym (ap checkedOf (r .1)) ∙ told d n held e .is)))))
+
+returns-3 : tie.Need-returns-3
+returns-3 c = λ n held e.
     let a = c .before .before in
     let j = a .judge-all in
-    let k = a .before .before .before .before .before .before in
+    let o = a .before .before .before .before .before .before in
+    let k = passing o in
     let d = check-call k in
     let t = told d n held e in
     let x = t .indexed (k .k .given .0 .0) (k .k .given .1) in
-    polygons-judged n (j .result) _ _ (passed k n held e) (j .ensures .1 (keys d) n (x .1) (rule-A k n held e) held (t .laid) (sym (ap length (t .laid) ∙ e))) (subst (OneEach (j .result)) (sym e) (j .ensures .0))
+    let f = whole (entry o) n in
+    let b = sym (compared o n held) ∙ not-false (o .framed .result) (a .before .before .before .before .before .if1 .left) in
+    polygons-judged f n (j .result) _ _ (sym (framed-value f n .1 (sym (passed k n held e), b)))
+    (j .ensures .1 (keys d) n (x .1) (rule-A k n held e) held (t .laid) (sym (ap length (t .laid) ∙ e))) (subst (OneEach (j .result)) (sym e) (j .ensures .0))
     (d .check .kept .1 .1 .1 .1 .0 ∙ start d .pre .1 .opposite ∙ ap (λ t. 3 * t) (sym e)) (x .1 .opposite-is ∙ ap (λ t. opposites (sidesOf t)) (t .laid))
 
 pub judge-in-spec : {M : Type 1} → statement M
@@ -92,17 +126,23 @@ judge-in-spec =
     check-requires
     (λ c. search needs)
     (λ c. search needs)
-    (λ c. indexed (c .before) .0)
-    (λ c. sym (length-take-le _ _ (indexed (c .before .before) .0)))
-    judge-all-requires
+    framed-requires
     (λ c. search needs)
     (λ c. search needs)
     (λ c. search needs)
     (λ c. search needs)
     returns
+    (λ c. indexed (passing (c .before)) .0)
+    (λ c. sym (length-take-le _ _ (indexed (passing (c .before .before)) .0)))
+    judge-all-requires
+    (λ c. search needs)
+    (λ c. search needs)
+    (λ c. search needs)
+    (λ c. search needs)
+    returns-2
     (λ c. search needs)
     (λ c. search needs)
     (λ c. search needs)
     (λ c. search needs)
     (λ c. search needs)
-    returns-2)
+    returns-3)

@@ -1,5 +1,5 @@
 -- `judged::judged` meets its contract: what was read is a sheet within the limits, and goes on to its owner sets. Assumes nothing.
-use mathlib.Core.Path.{_≡_, sym, subst}
+use mathlib.Core.Path.{_≡_, sym, ap, subst}
 use mathlib.Core.List.{List}
 use mathlib.Core.Logic.{inl}
 use Prim.Native.Nat.{ℕ, _≤_}
@@ -11,8 +11,9 @@ use lib.Seq.{length-take-le}
 use Rattle.lent.specs.Stages.{value, refused}
 use Rattle.sheet_form.specs.Numbers.{Sheet, members}
 use Rattle.sheet.specs.Held.{SheetHeld}
-use Rattle.sheet_modes.specs.Modes.{readBy}
-use Rattle.sheet_modes.specs.Held.{ReadAs}
+use Rattle.sheet_modes.specs.Modes.{readBy, headerBy, framed}
+use Rattle.sheet_modes.specs.Held.{aroundOf, GotAs}
+use Rattle.judged.specs.Judging.{OwnedOf}
 use Rattle.judged.proofs.Stages.{judged-refused}
 use Rattle.judged.proofs.Read.{judged-as}
 use Rattle.judged.proofs.judged.Statement.{statement}
@@ -35,22 +36,23 @@ mode c = start c .args .mode
 abbrev numbers : tie.After-read → List ℕ
 numbers c = c .read .last .1 .1 .0
 
--- The sheet that was read stands at the front of the lent list.
-held : (c : tie.After-n) → let d = read-call c in (n : Sheet) × (readBy members (mode d) (bytes d) ≡ value n) × SheetHeld members n (take (c .n .given .0 .0) (numbers d)) × (c .n .given .0 .0 ≤ length (numbers d))
-held c = let d = read-call c in subst (λ r. ReadAs (mode d) (bytes d) r (numbers d)) (c .n .given .1) (d .read .ensures .0)
+-- The sheet that was read stands at the front of the lent list, and what stands around it is told.
+held : (c : tie.After-n) → let d = read-call c in
+    (n : Sheet) × (readBy members (mode d) (bytes d) ≡ value n) × (headerBy (mode d) (bytes d) ≡ aroundOf (c .n .given .0 .1 .0)) × SheetHeld members n (take (c .n .given .0 .0) (numbers d)) × (c .n .given .0 .0 ≤ length (numbers d))
+held c = let d = read-call c in subst (λ r. GotAs (mode d) (bytes d) r (numbers d)) (c .n .given .1) (d .read .ensures .0)
 
 judge-requires : tie.Need-judge-requires
 judge-requires c κs =
     let d = c .before .before .before .before in
     let p = start (read-call d) .pre in
     let h = held d in
-    ((h .0, h .2), p .1, p .2)
+    ((h .0, h .3), p .1, p .2)
 
 returns : tie.Need-returns
 returns c =
     let r = c .before .code .given in
     let d = c .before .before .before .before .before in
-    judged-refused (mode d) (bytes d) _ _ .1 (inl (subst (λ r. ReadAs (mode d) (bytes d) r (numbers d)) (r .1) (d .read .ensures .0) .0))
+    judged-refused (mode d) (bytes d) _ _ .1 (inl (subst (λ r. GotAs (mode d) (bytes d) r (numbers d)) (r .1) (d .read .ensures .0) .0))
 
 returns-2 : tie.Need-returns-2
 returns-2 c =
@@ -59,7 +61,8 @@ returns-2 c =
     let w = o .judge in
     let h = held d in
     let e = read-call d in
-    judged-as (mode e) (bytes e) (h .0) (h .1) (d .n .given .0 .0) (numbers e) (h .2) (w .last .1 .0) (w .last .1 .1 .0) (w .result) (w .ensures (h .0) (h .2))
+    judged-as (mode e) (bytes e) (h .0) (h .1) (d .n .given .0 .0) (numbers e) (h .3) (w .last .1 .1 .0) (w .last .1 .1 .1 .0) (w .result)
+    (subst (λ b. OwnedOf b (h .0) (w .result) (w .last .1 .1 .0) (w .last .1 .1 .1 .0)) (ap (λ a. framed a (h .0)) (sym (h .2))) (w .ensures (h .0) (h .3)))
 
 pub judged-spec : {M : Type 1} → statement M
 judged-spec =
@@ -68,8 +71,8 @@ judged-spec =
     (λ c κs. omega arith)
     (λ c. search needs)
     (λ c. search needs)
-    (λ c. held (c .before) .3)
-    (λ c. sym (length-take-le _ _ (held (c .before .before) .3)))
+    (λ c. held (c .before) .4)
+    (λ c. sym (length-take-le _ _ (held (c .before .before) .4)))
     judge-requires
     (λ c. search needs)
     returns

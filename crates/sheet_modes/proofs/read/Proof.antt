@@ -1,90 +1,83 @@
--- `sheet_modes::read` meets its contract: in the present mode what was read stands, in the older one its rings are turned where they stand. Assumes nothing.
+-- `sheet_modes::read` meets its contract: by the mode the sheet is read from the first byte or behind a blob's header. Assumes nothing.
 use mathlib.Core.Path.{_≡_, refl, sym, _∙_, ap, subst}
-use mathlib.Core.List.{List}
 use mathlib.Core.Logic.{inl, inr}
+use mathlib.Core.Bool.{cond}
+use mathlib.Core.List.{List}
+use mathlib.Core.Option.{none, some}
 use Prim.Native.Nat.{ℕ, _≤_, _<_}
 use native.Mathlib.Omega.{arith}
 use borrow.Author.Needs.{needs}
+use borrow.Rule.Slice.PartAt.{part-to-end}
 use denote.Ref.{now}
-use lib.ListN.{length, take, drop, length-append, length-drop}
-use lib.Seq.{length-take-le, take-at}
-use Rattle.whole.specs.Sums.{All}
-use Rattle.whole.proofs.Sums.{all-from}
-use Rattle.lent.specs.Stages.{value, refused}
-use Rattle.sheet_form.specs.Numbers.{Sheet, members}
-use Rattle.sheet.specs.declared.Ending.{Ending}
-use Rattle.sheet.specs.declared.Ending.the-variants.{Sheet as Read, Refused}
-use Rattle.sheet.specs.Reading.{readingOf}
-use Rattle.sheet.specs.Going.{laid, readOf}
-use Rattle.sheet.specs.Read.{readSheet}
-use Rattle.sheet.specs.Held.{SheetHeld}
-use Rattle.sheet.proofs.Fit.{numbers-fit}
-use Rattle.sheet_written.proofs.Held.{read-held}
-use Rattle.sheet_turned.specs.Rings.{RingsFit}
-use Rattle.sheet_turned.specs.Turned.{turned}
-use Rattle.sheet_turned.proofs.Trip.{read-rings}
-use Rattle.sheet_modes.specs.Modes.{Edition, present, older, editionOf, positionIn}
-use Rattle.sheet_modes.specs.Held.{ReadAs}
-use Rattle.sheet_modes.proofs.Modes.{by-value, by-refused, mode-unknown}
-use Rattle.sheet_modes.proofs.Endings.{sheet-is, refusal-is, position-is, room, front}
+use lib.Dec.{eqb}
+use lib.ListN.{length, drop, length-drop}
+use Rattle.lent.specs.Stages.{value}
+use Rattle.sheet_form.specs.Numbers.{members}
+use Rattle.sheet_blob.specs.declared.Opened.{Opened}
+use Rattle.sheet_blob.specs.declared.Opening.the-variants.{Read as HeaderRead}
+use Rattle.sheet_blob.specs.Opening.{openingOf}
+use Rattle.sheet_blob.proofs.Refusals.{begins-within}
+use Rattle.sheet_modes.specs.declared.Around.the-variants.{Nothing, Header}
+use Rattle.sheet_modes.specs.Modes.{present, older, plain, blob, Mode, modeOf, around, headed, positionIn}
+use Rattle.sheet_modes.specs.Held.{EndsAs}
+use Rattle.sheet_modes.proofs.Modes.{by-refused, mode-unknown, plain-mode, blob-mode}
+use Rattle.sheet_modes.proofs.Outcome.{got-sheet, got-refused, got-header}
 use Rattle.sheet_modes.proofs.read.Statement.{statement}
 use Rattle.sheet_modes.proofs.read.Tie as tie
 
--- ---- in a known mode, before turning
-module _ (s : List ℕ) (all : All (λ b. b < 256) s) (numbers₀ numbers : List ℕ) (long : 16450 ≤ length numbers₀) (laid-over : numbers ≡ laid (readingOf members s .numbers) numbers₀) where
-  -- A sheet was read: it stands at the front.
-  pub stood : (k : ℕ) → readOf (readingOf members s) ≡ Read k → (n : Sheet) × (readSheet members s ≡ value n) × SheetHeld members n (take k numbers) × (k ≤ length numbers) × RingsFit n
-  stood k e =
-      let (m, z) = sheet-is (readingOf members s) k e in
-      let (n, h, r) = read-held members (omega arith) s all z in
-      let few = numbers-fit members s z in
-      let f = front numbers (readingOf members s .numbers) numbers₀ k laid-over (omega arith) m in
-      (n, r, subst (SheetHeld members n) (sym f) h, omega (arith, room numbers (readingOf members s .numbers) numbers₀ laid-over), read-rings members (omega arith) s all n r)
+-- The mode as known: of a sheet by itself, and of a blob.
+abbrev alone : ℕ → Mode
+alone mode = record { form = plain; edition = cond (eqb mode 1) older present }
 
-  -- A refusal, in a known mode.
-  pub refused-by : (mode : ℕ) (edition : Edition) → editionOf mode ≡ value edition → (code item field : ℕ) → readOf (readingOf members s) ≡ Refused code item field → ReadAs mode s (Refused code item field) numbers
-  refused-by mode edition p code item field e = (
-    by-refused members s mode code item .1 (inr (edition, p, refusal-is members s code item field e)),
-    position-is members s code item field e ∙ ap (λ a. positionIn a s) (sym p),
-  )
-
-  -- The ending as it is, in the present mode.
-  pub as-read : (mode : ℕ) → editionOf mode ≡ value present → (r : Ending) → r ≡ readOf (readingOf members s) → ReadAs mode s r numbers
-  as-read mode p (Read k) e = let (n, r, h, l, f) = stood k (sym e) in (n, by-value members s mode n .1 (present, p, n, r, refl), h, l)
-  as-read mode p (Refused code item field) e = refused-by mode present p code item field (sym e)
-
--- ---- modes
-is-present : (mode : ℕ) → mode ≡ 0 → editionOf mode ≡ value present
-is-present mode e = rw e
-
-is-older : (mode : ℕ) → mode ≡ 1 → editionOf mode ≡ value older
-is-older mode e = rw e
+abbrev wrapped : ℕ → Mode
+wrapped mode = record { form = blob; edition = cond (eqb mode 3) older present }
 
 -- ---- places
-abbrev start : tie.After-read → tie.Start
-start d = d .before .before .before .before .before
+-- A sheet by itself.
+module _ (d : tie.After-sheet-of) where
+  abbrev alone-start : tie.Start
+  alone-start = d .before .before .before .before .before .before
 
-module _ (d : tie.After-read) where
+  abbrev alone-mode : ℕ
+  alone-mode = alone-start .args .mode
+
+  pub is-alone : modeOf alone-mode ≡ value (alone alone-mode)
+  is-alone = plain-mode alone-mode (d .before .before .if2 .taken)
+
+-- A blob: its header is read or refused.
+module _ (d : tie.After-header) where
+  abbrev blob-start : tie.Start
+  blob-start = d .before .before .before .before .before
+
+  abbrev blob-asked : ℕ
+  blob-asked = blob-start .args .mode
+
   abbrev S : List ℕ
-  S = now (start d .args .s)
+  S = now (blob-start .args .s)
 
-  bytes : All (λ b. b < 256) S
-  bytes = all-from (λ x. x < 256) 0 S (λ i l. d .before .before .before .before .shared-slice-known .given i .fits)
+  pub is-wrapped : modeOf blob-asked ≡ value (wrapped blob-asked)
+  is-wrapped = blob-mode blob-asked (d .before .if2 .left) (d .before .before .if1 .left)
 
-  -- The mode is 1 where it is neither 0 nor unknown.
-  one : (start d .args .mode ≡ 0 → ⊥) → start d .args .mode ≡ 1
-  one h = let l = d .before .before .if1 .left in omega (arith, h)
+-- Its header was read, and behind it the sheet.
+module _ (h : tie.After-h) where
+  abbrev A : tie.After-header
+  A = h .before .before
 
--- A sheet was read, in the older mode.
-module _ (e : tie.After-ending) where
-  abbrev D : tie.After-read
-  D = e .before .before .before .before .before
+  abbrev H : Opened
+  H = h .h .given .0 .0
 
-  abbrev K : ℕ
-  K = e .ending .given .0 .0
+  pub opens : openingOf (S A) ≡ HeaderRead H
+  opens = sym (A .header .ensures) ∙ h .h .given .1
 
-  pub sheet : (n : Sheet) × (readSheet members (S D) ≡ value n) × SheetHeld members n (take K (D .read .last .1 .1 .0)) × (K ≤ length (D .read .last .1 .1 .0)) × RingsFit n
-  sheet = stood (S D) (bytes D) _ _ (start D .pre) (D .read .ensures .1) K (sym (D .read .ensures .0) ∙ e .ending .given .1)
+  pub inside : H .at ≤ length (S A)
+  inside = begins-within (S A) H opens .1
+
+module _ (d : tie.After-sheet-of2) where
+  abbrev O : tie.After-h
+  O = d .before .before .before .before
+
+  pub ends : EndsAs (wrapped (blob-asked (A O)) .edition) (drop (H O .at) (S (A O))) (d .sheet-of2 .result) (d .sheet-of2 .last .1 .1 .0)
+  ends = subst (λ s. EndsAs (wrapped (blob-asked (A O)) .edition) s (d .sheet-of2 .result) (d .sheet-of2 .last .1 .1 .0)) (part-to-end (S (A O)) (H O .at)) (d .sheet-of2 .ensures .0)
 
 -- ---- the needs
 returns : tie.Need-returns
@@ -94,37 +87,44 @@ returns c =
 
 returns-2 : tie.Need-returns-2
 returns-2 c =
-    let d = c .before .before .before in
-    (as-read (S d) (bytes d) _ _ (start d .pre) (d .read .ensures .1) _ (is-present _ (c .if2 .taken)) _ (d .read .ensures .0), room _ _ _ (d .read .ensures .1))
+    let d = c .before .before .before .before .before in
+    let w = d .sheet-of .ensures in
+    (got-refused (alone-mode d) (now (alone-start d .args .s)) (d .sheet-of .last .1 .1 .0) (alone (alone-mode d)) (is-alone d) none refl _ _ _ _ (omega arith) (d .sheet-of .result) (c .before .code .given .1) (w .0), w .1)
 
 returns-3 : tie.Need-returns-3
 returns-3 c =
     let d = c .before .before .before .before .before in
-    let o = is-older _ (one d (c .before .before .if2 .left)) in
-    let r = d .read .ensures in
-    (rw (c .enum-told .given .1) (refused-by (S d) (bytes d) _ _ (start d .pre) (r .1) _ older o _ _ _ (sym (r .0) ∙ c .enum-told .given .1)), room _ _ _ (r .1))
+    let w = d .sheet-of .ensures in
+    (got-sheet (alone-mode d) (now (alone-start d .args .s)) (d .sheet-of .last .1 .1 .0) (alone (alone-mode d)) (is-alone d) none refl _ Nothing refl (d .sheet-of .result) (c .before .n .given .1) (w .0), w .1)
 
-slice-relend-prefix-turn : tie.Need-slice-relend-prefix-turn
-slice-relend-prefix-turn c = sheet (c .before) .3
+sub-sheet-of : tie.Need-sub-sheet-of
+sub-sheet-of c = inside (c .before)
 
-slice-aggregate-turn : tie.Need-slice-aggregate-turn
-slice-aggregate-turn c = sym (length-take-le _ _ (sheet (c .before .before) .3))
+part-sheet-of-start : tie.Need-part-sheet-of-start
+part-sheet-of-start c = inside (c .before)
 
-turn-requires : tie.Need-turn-requires
-turn-requires c κs = let (n, r, h, l, f) = sheet (c .before .before) in (members, n, h, f)
+add-t34 : tie.Need-add-t34
+add-t34 c =
+    let d = c .before .before .before .before .before in
+    let e = subst (λ r. EndsAs (wrapped (blob-asked (A (O d))) .edition) (drop (H (O d) .at) (S (A (O d)))) r (d .sheet-of2 .last .1 .1 .0)) (c .before .code3 .given .1) (ends d) in
+    omega (arith, e .3, length-drop (H (O d) .at) (S (A (O d))), inside (O d), blob-start (A (O d)) .good .0 .1)
 
 returns-4 : tie.Need-returns-4
 returns-4 c =
-    let e = c .before .before .before .before .before in
-    let w = c .before .before .turn in
-    let (n, r, h, l, f) = sheet e in
-    let m = w .ensures .1 ∙ length-take-le (K e) (D e .read .last .1 .1 .0) l in
-    let o = is-older _ (one (D e) (e .before .before .if2 .left)) in
-    let a = length-append (w .last .0) (drop (K e) (D e .read .last .1 .1 .0)) in
-    let d = length-drop (K e) (D e .read .last .1 .1 .0) in (
-      (turned n, by-value members _ _ (turned n) .1 (older, o, n, r, refl), subst (SheetHeld members (turned n)) (sym (take-at (w .last .0) _ (K e) m)) (w .ensures .0 members n h f), omega arith),
-      omega (arith, room _ _ _ (D e .read .ensures .1)),
-    )
+    let a = c .before .before .before in
+    (got-header (blob-asked a) (S a) (now (blob-start a .args .numbers)) (wrapped (blob-asked a)) (is-wrapped a) refl _ _ (sym (a .header .ensures) ∙ c .before .code2 .given .1), refl)
+
+returns-5 : tie.Need-returns-5
+returns-5 c =
+    let d = c .before .before .before .before .before in
+    let a = A (O d) in
+    (got-refused (blob-asked a) (S a) (d .sheet-of2 .last .1 .1 .0) (wrapped (blob-asked a)) (is-wrapped a) (some (H (O d))) (ap headed (opens (O d))) _ _ _ _ refl (d .sheet-of2 .result) (c .before .code3 .given .1) (ends d), d .sheet-of2 .ensures .1)
+
+returns-6 : tie.Need-returns-6
+returns-6 c =
+    let d = c .before .before .before .before .before in
+    let a = A (O d) in
+    (got-sheet (blob-asked a) (S a) (d .sheet-of2 .last .1 .1 .0) (wrapped (blob-asked a)) (is-wrapped a) (some (H (O d))) (ap headed (opens (O d))) _ (Header (H (O d))) refl (d .sheet-of2 .result) (c .before .n2 .given .1) (ends d), d .sheet-of2 .ensures .1)
 
 pub read-spec : {M : Type 1} → statement M
 read-spec =
@@ -133,13 +133,23 @@ read-spec =
     returns
     (λ c κs. search needs)
     (λ c. search needs)
+    (λ c. search needs)
+    (λ c. search needs)
     returns-2
     (λ c. search needs)
-    (λ c. search needs)
-    (λ c. search needs)
     returns-3
-    slice-relend-prefix-turn
-    slice-aggregate-turn
-    turn-requires
+    (λ c κs. search needs)
     (λ c. search needs)
-    returns-4)
+    (λ c. search needs)
+    sub-sheet-of
+    part-sheet-of-start
+    (λ c. search needs)
+    (λ c κs. search needs)
+    (λ c. search needs)
+    add-t34
+    (λ c. search needs)
+    returns-4
+    (λ c. search needs)
+    returns-5
+    (λ c. search needs)
+    returns-6)

@@ -13,7 +13,7 @@ use Rattle.wkb.proofs.Complete.{Complete, complete-is}
 use Rattle.sheet.specs.Reading.{Taken}
 use Rattle.sheet.specs.Going.{reading}
 use Rattle.sheet_standard.specs.Limits.{membersOf, Each, MembersFit}
-use Rattle.sheet_standard.proofs.Standard.Fields.{Bytes}
+use Rattle.lent_fields.proofs.Fields.{Bytes}
 use Rattle.sheet_standard.proofs.Standard.Steps.{end-goes, end-back}
 use Rattle.sheet_standard.proofs.Standard.Left.{Left, only, leftBytes, leftOpen, Top, Group, Below, Stands, Good, front, leftNumbers, outcome, Ends, no-polygon, Found, Through, Back}
 use Rattle.sheet_standard.proofs.Standard.Points.{no-header, point-through, point-return}

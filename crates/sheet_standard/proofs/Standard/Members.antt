@@ -19,7 +19,8 @@ use Rattle.wkb.proofs.Allowed.{Allowed, allowed-member, allowed-part, polygon, 
 use Rattle.sheet.specs.Reading.{Taken}
 use Rattle.sheet.specs.Going.{reading}
 use Rattle.sheet_standard.specs.Limits.{memberOf, PolygonFits, FromTo, MemberFits, MembersFit, Each, PartFits}
-use Rattle.sheet_standard.proofs.Standard.Fields.{Bytes, heading, heading-is, heads}
+use Rattle.lent_fields.proofs.Fields.{Bytes}
+use Rattle.sheet_standard.proofs.Standard.Fields.{heading, heading-is, heads}
 use Rattle.sheet_standard.proofs.Standard.Steps.{geometry-goes, GeometryRead, geometry-back}
 use Rattle.sheet_standard.proofs.Standard.Left.{Left, leftBytes, Stands, Raw, outcome, Ends, no-list, Found, Through, Back}
 use Rattle.sheet_standard.proofs.Standard.Levels.{Level, At, taking, begun, with-it, Fits, Inside, inner, part, own, second, third, fourth}

@@ -20,7 +20,8 @@ use Rattle.sheet.specs.Reading.{Taken, held, numbered, push, noted, inTable, cl
 use Rattle.sheet.specs.Going.{reading}
 use Rattle.sheet.proofs.Run.{renewed-at}
 use Rattle.sheet_standard.specs.Limits.{numberOf, pointOf}
-use Rattle.sheet_standard.proofs.Standard.Fields.{Bytes, points}
+use Rattle.lent_fields.proofs.Fields.{Bytes}
+use Rattle.sheet_standard.proofs.Standard.Fields.{points}
 use Rattle.sheet_standard.proofs.Standard.Steps.{point-goes, PointRead, point-back}
 use Rattle.sheet_standard.proofs.Standard.Left.{Left, Closes, OpenPolygon, Stands, Raw, front, outcome, Ends, millimetres-same, pushed, still-marked, Found, Through, Back}
 use Rattle.sheet_standard.proofs.Standard.Renewed.{renew-good, renew-stands, renew-back, renew-outcome}

@@ -18,7 +18,7 @@ use Rattle.sheet_form.specs.Numbers.{pointNumbers, ringNumbers}
 use Rattle.sheet.specs.Reading.{Taken, held, firstToCome, push, ringing}
 use Rattle.sheet.specs.Going.{reading}
 use Rattle.sheet_standard.specs.Limits.{pointOf, ringOf, FromTo}
-use Rattle.sheet_standard.proofs.Standard.Fields.{Bytes, reads}
+use Rattle.lent_fields.proofs.Fields.{Bytes, reads}
 use Rattle.sheet_standard.proofs.Standard.Steps.{ring-goes, RingRead, ring-back}
 use Rattle.sheet_standard.proofs.Standard.Left.{Left, leftOpen, lastOf, Closes, OpenPolygon, Stands, Raw, Good, front, leftNumbers, outcome, Ends, millimetres-count, pushed, still-marked, no-ring, Found, Through, Back}
 use Rattle.sheet_standard.proofs.Standard.Points.{no-header}

@@ -25,7 +25,9 @@ use Rattle.wkb.proofs.Due.{at-point, at-ring, at-end, at-header}
 use Rattle.sheet.specs.Reading.{Taken, Reading, Turn, on, over, opening, ringing, noted, pointing, judged, taken, turn}
 use Rattle.sheet.specs.Going.{reading}
 use Rattle.sheet.proofs.Run.{reading-turns}
-use Rattle.sheet_standard.proofs.Standard.Fields.{Bytes, Reads, written, number-fits, heading, Heads, order-said, said-order, headed, Points, pointed}
+use Rattle.lent_fields.proofs.Fields.{Bytes, Reads, written, number-fits}
+use Rattle.wkb.proofs.Orders.{order-said, said-order}
+use Rattle.sheet_standard.proofs.Standard.Fields.{heading, Heads, headed, Points, pointed}
 
 pub cond-yes : {A : Type 0} {b : Bool} (x y : A) → b ≡ true → cond b x y ≡ x
 cond-yes x y e = rw e

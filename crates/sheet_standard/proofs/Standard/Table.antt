@@ -18,7 +18,7 @@ use Rattle.sheet_form.specs.Numbers.{pointNumbers, triangleNumbers, memberNumbe
 use Rattle.sheet.specs.Reading.{Taken}
 use Rattle.sheet.specs.Going.{reading}
 use Rattle.sheet_standard.specs.Limits.{pointOf, memberOf, membersOf, triangleOf, each, PieceFits, Each, allLengths}
-use Rattle.sheet_standard.proofs.Standard.Fields.{Bytes}
+use Rattle.lent_fields.proofs.Fields.{Bytes}
 use Rattle.sheet_standard.proofs.Standard.Steps.{cond-no, end-goes, end-back}
 use Rattle.sheet_standard.proofs.Standard.Left.{leftBytes, leftOpen, only, Top, Group, OpenPolygon, Good, front, leftNumbers, outcome, Ends, no-list, no-polygon}
 use Rattle.sheet_standard.proofs.Standard.Levels.{second}

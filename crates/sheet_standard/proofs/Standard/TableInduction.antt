@@ -8,7 +8,7 @@ use Rattle.wkb.specs.declared.Cursor.{Cursor}
 use Rattle.wkb.specs.Standard.{Pair, Geometries, none, _then_}
 use Rattle.sheet.specs.Reading.{Taken}
 use Rattle.sheet.specs.Going.{reading}
-use Rattle.sheet_standard.proofs.Standard.Fields.{Bytes}
+use Rattle.lent_fields.proofs.Fields.{Bytes}
 use Rattle.sheet_standard.proofs.Standard.Left.{Ends}
 use Rattle.sheet_standard.proofs.Standard.Table.{InTable, TableStands, Unfinished, tableOutcome, TableFound, TableThrough, TableBack}
 use Rattle.sheet_standard.proofs.Standard.TablePoints.{table-point-through, table-point-return}

@@ -24,7 +24,8 @@ use Rattle.sheet_form.specs.Numbers.{triangleNumbers}
 use Rattle.sheet.specs.Reading.{Taken, opening}
 use Rattle.sheet.specs.Going.{reading}
 use Rattle.sheet_standard.specs.Limits.{triangleOf, each, RingFits}
-use Rattle.sheet_standard.proofs.Standard.Fields.{Bytes, heading, heading-is, heads}
+use Rattle.lent_fields.proofs.Fields.{Bytes}
+use Rattle.sheet_standard.proofs.Standard.Fields.{heading, heading-is, heads}
 use Rattle.sheet_standard.proofs.Standard.Steps.{AtGeometry, geometry-goes, geometry-back}
 use Rattle.sheet_standard.proofs.Standard.Left.{Ends, no-list, no-ring, no-polygon}
 use Rattle.sheet_standard.proofs.Standard.Rings.{regroup}

@@ -17,7 +17,7 @@ use Rattle.wkb.proofs.Complete.{Complete, not-complete}
 use Rattle.sheet.specs.Reading.{Taken, held, push, noted, lastOfTable, pointing}
 use Rattle.sheet.specs.Going.{reading}
 use Rattle.sheet.proofs.Rows.{renewed-stays}
-use Rattle.sheet_standard.proofs.Standard.Fields.{Bytes}
+use Rattle.lent_fields.proofs.Fields.{Bytes}
 use Rattle.sheet_standard.proofs.Standard.Steps.{PointRead, point-back}
 use Rattle.sheet_standard.proofs.Standard.Left.{Ends, millimetres-count, no-polygon}
 use Rattle.sheet_standard.proofs.Standard.Points.{passed, withPoint, PointPassed, point-passed, point-before}

@@ -15,7 +15,7 @@ use Rattle.sheet_form.specs.Numbers.{triangleNumbers}
 use Rattle.sheet.specs.Reading.{Taken, firstToCome, ringing}
 use Rattle.sheet.specs.Going.{reading}
 use Rattle.sheet_standard.specs.Limits.{triangleOf, each}
-use Rattle.sheet_standard.proofs.Standard.Fields.{Bytes}
+use Rattle.lent_fields.proofs.Fields.{Bytes}
 use Rattle.sheet_standard.proofs.Standard.Steps.{ring-back}
 use Rattle.sheet_standard.proofs.Standard.Left.{Ends}
 use Rattle.sheet_standard.proofs.Standard.Rings.{ring-counted, ring-before}

@@ -1,100 +1,119 @@
--- `sheets_answers::numbers` meets its contract: the sheet that was read stands at the front of the work array as it is held, four bytes for each number.
--- Assumes nothing.
-use mathlib.Core.Path.{_≡_, sym, _∙_, ap, subst}
+-- `sheets_answers::numbers` meets its contract: the sheet that was read stands at the front of the work array as it is held, four bytes for each number, and the
+-- envelope around it is compared first. Assumes nothing.
+use mathlib.Core.Path.{_≡_, sym, _∙_, ap, ap₂, subst}
+use mathlib.Core.Bool.{true}
 use mathlib.Core.List.{List, flatMap, _++_}
-use Prim.Native.Nat.{ℕ, _*_, _≤_}
+use Prim.Native.Nat.{ℕ, _+_, _*_, _≤_}
 use native.Mathlib.Omega.{arith}
 use borrow.Author.Needs.{needs}
+use borrow.Author.Tests.{not-true, not-false}
 use denote.Ref.{now}
-use lib.ListN.{length, take, drop}
+use lib.ListN.{length, take}
 use lib.Seq.{length-take-le}
-use Rattle.lent.specs.Stages.{value, andThen}
-use Rattle.lent.specs.Answered.{bytes}
-use Rattle.lent.proofs.Answered.{answered-refusal, answered-short, answered-bytes}
+use Rattle.lent.specs.Stages.{value}
+use Rattle.lent.specs.Answered.{Outcome, Answered, bytes}
+use Rattle.lent.proofs.Answered.{answered-refusal}
 use Rattle.lent_little.specs.Held.{heldBytes}
 use Rattle.sheet_form.specs.Numbers.{Sheet, members}
 use Rattle.sheet.specs.Held.{SheetHeld}
-use Rattle.sheet_modes.specs.Modes.{readBy}
-use Rattle.sheet_modes.specs.Held.{ReadAs}
-use Rattle.outcomes.specs.Entries.{formOutcome, sheetNumbersBy}
-use Rattle.outcomes.proofs.Outcomes.{four-each, numbers-read}
+use Rattle.sheet_modes.specs.declared.Around.{Around}
+use Rattle.sheet_modes.specs.Modes.{headerBy, readBy, framed}
+use Rattle.sheet_modes.specs.Held.{aroundOf, GotAs}
+use Rattle.outcomes.specs.Entries.{firstOf, sheetNumbersBy}
+use Rattle.outcomes.proofs.Outcomes.{numbers-read, numbers-unframed, numbers-refused}
 use Rattle.sheets_answers.proofs.numbers.Statement.{statement}
 use Rattle.sheets_answers.proofs.numbers.Tie as tie
 
--- ---- places: the entry of the function, the call of `read`
-abbrev start : tie.After-read → tie.Start
-start c = c .before .before .before .before
+-- ---- what stands after the reading
+module _ (d : tie.After-read) where
+  abbrev start : tie.Start
+  start = d .before .before .before .before
 
-abbrev call : tie.After-ending2 → tie.After-read
-call c = c .before .before .before
+  abbrev S : List ℕ
+  S = now (start .args .sheet)
 
--- The bytes, the mode, the work array that was left, and how many numbers of it are the sheet's.
-abbrev sheet : tie.After-read → List ℕ
-sheet c = now (start c .args .sheet)
+  abbrev M : ℕ
+  M = start .args .mode
 
-abbrev mode : tie.After-read → ℕ
-mode c = start c .args .mode
+  abbrev left : List ℕ
+  left = d .read .last .1 .1 .0
 
-abbrev left : tie.After-read → List ℕ
-left c = c .read .last .1 .1 .0
+-- A sheet was read.
+module _ (a : tie.After-n) where
+  abbrev D : tie.After-read
+  D = a .before .before .before
 
-abbrev many : tie.After-ending2 → ℕ
-many c = c .ending2 .given .0 .0
+  abbrev K : ℕ
+  K = a .n .given .0 .0
 
-abbrev numbers : tie.After-ending2 → List ℕ
-numbers c = take (many c) (left (call c))
+  abbrev around : Around
+  around = a .n .given .0 .1 .0
 
--- What stands there.
-read-is : (c : tie.After-ending2) → let d = call c in (n : Sheet) × (readBy members (mode d) (sheet d) ≡ value n) × SheetHeld members n (numbers c) × (many c ≤ length (left d))
-read-is c = let d = call c in subst (λ r. ReadAs (mode d) (sheet d) r (left d)) (c .ending2 .given .1) (d .read .ensures .0)
+  pub held : (n : Sheet) × (readBy members (M D) (S D) ≡ value n) × (headerBy (M D) (S D) ≡ aroundOf around) × SheetHeld members n (take K (left D)) × (K ≤ length (left D))
+  held = subst (λ r. GotAs (M D) (S D) r (left D)) (a .n .given .1) (D .read .ensures .0)
 
-as-many : (c : tie.After-ending2) → length (numbers c) ≡ many c
-as-many c = length-take-le (many c) (left (call c)) (read-is c .3)
+  pub few : K ≤ 16450
+  few = omega (arith, held .4, D .read .ensures .1)
 
-few : (c : tie.After-ending2) → many c ≤ 16450
-few c = omega (arith, read-is c .3, call c .read .ensures .1)
+  pub as-many : length (take K (left D)) ≡ K
+  as-many = length-take-le K (left D) (held .4)
 
-outcome : (c : tie.After-ending2) → sheetNumbersBy (mode (call c)) (sheet (call c)) ≡ bytes (4 * many c) (flatMap heldBytes (numbers c))
-outcome c =
-    let (n, r, h, l) = read-is c in
-    numbers-read (mode (call c)) (sheet (call c)) n (numbers c) r h ∙ ap (λ k. bytes (4 * k) (flatMap heldBytes (numbers c))) (as-many c)
+  -- Where the envelope agrees, the numbers of what stands around the sheet and of the sheet.
+  pub outcome : framed (headerBy (M D) (S D)) (held .0) ≡ true
+      → sheetNumbersBy (M D) (S D) ≡ bytes (length (firstOf (aroundOf around)) + 4 * K) (firstOf (aroundOf around) ++ flatMap heldBytes (take K (left D)))
+  outcome e =
+      numbers-read (M D) (S D) (held .0) (held .1) (take K (left D)) (held .3) e
+      ∙ ap₂ (λ o k. bytes (length (firstOf o) + 4 * k) (firstOf o ++ flatMap heldBytes (take K (left D)))) (held .2) as-many
 
+-- The envelope was compared.
+module _ (f : tie.After-framed) where
+  abbrev A : tie.After-n
+  A = f .before .before .before
+
+  pub compared : f .framed .result ≡ framed (headerBy (M (D A)) (S (D A))) (held A .0)
+  compared = f .framed .ensures members (held A .0) (held A .3) ∙ ap (λ o. framed o (held A .0)) (sym (held A .2))
+
+told : (o p : Outcome) (before : List ℕ) (r : ℕ) (after : List ℕ) → o ≡ p → Answered o before r after → Answered p before r after
+told o p before r after e = subst (λ (q : Outcome). Answered q before r after) e
+
+-- ---- the needs
 returns : tie.Need-returns
-returns c = let k = c .before .before in answered-short _ _ _ _ (outcome k) (omega (arith, four-each (numbers k), as-many k))
-
-write-requires : tie.Need-write-requires
-write-requires c κs = let k = c .before .before .before .before in (omega (arith, read-is k .3), omega arith)
+returns c =
+    let f = c .before in
+    let a = A f in
+    answered-refusal _ _ 52 0 (numbers-unframed (M (D a)) (S (D a)) (held a .0) (held a .1) (sym (compared f) ∙ not-true (f .framed .result) (c .if1 .taken)))
 
 returns-2 : tie.Need-returns-2
 returns-2 c =
-    let r = c .before .before .before .before in
-    answered-refusal _ _ _ _ (ap (λ a. andThen a formOutcome) (subst (λ e. ReadAs (mode r) (sheet r) e (left r)) (c .before .ending .given .1) (r .read .ensures .0) .0))
+    let k = c .before in
+    let d = k .before .before .before in
+    answered-refusal _ _ _ _ (numbers-refused (M d) (S d) _ _ (subst (λ r. GotAs (M d) (S d) r (left d)) (k .code .given .1) (d .read .ensures .0) .0))
 
 returns-3 : tie.Need-returns-3
 returns-3 c =
-    let k = c .before .before .before .before .before .before .before in
-    let four = four-each (numbers k) in
-    let m = as-many k in
-    let e : 4 * many k ≡ length (flatMap heldBytes (numbers k)) = omega arith in
-    answered-bytes _ _ _ _ (outcome k) _ (omega arith) (c .before .before .write .ensures ∙ ap (λ n. flatMap heldBytes (numbers k) ++ drop n (now (start (call k) .args .out))) e)
+    let w = c .before .before in
+    let t = w .before .before .before in
+    let f = t .before in
+    told _ _ _ _ _ (sym (outcome (A f) (sym (compared f) ∙ not-false (f .framed .result) (t .if1 .left)))) (w .form .ensures)
 
 pub numbers-spec : {M : Type 1} → statement M
 numbers-spec =
     tie.close
     (tie.spec
     (λ c. search needs)
-    (λ c κs. omega arith)
+    (λ c κs. search needs)
     (λ c. search needs)
     (λ c. search needs)
     (λ c. search needs)
     (λ c. search needs)
     (λ c. search needs)
     (λ c. search needs)
+    (λ c. held (c .before) .4)
+    (λ c. sym (as-many (c .before .before)))
+    (λ c κs. let a = c .before .before in (members, held a .0, held a .3))
     returns
     (λ c. search needs)
-    write-requires
-    (λ c. search needs)
-    (λ c. omega (arith, few (c .before .before .before .before .before .before .before)))
+    (λ c κs. let a = c .before .before .before .before .before .before in (held a .4, few a))
     returns-2
     (λ c. search needs)
     returns-3)

@@ -3,7 +3,7 @@
 
 use beside::call;
 use independent::bridge::{before_call, Function};
-use sheets::{boundary, listing, numbers, owner_sets, owners, position, verdict, write};
+use sheets::{boundary, listing, numbers, owner_sets, owners, position, verdict, write, write_blob};
 use sheets::{boundary_by, listing_by, numbers_by, owner_sets_by, owners_by, position_by, verdict_by};
 use sheets::{Mode, Point, Position, Refusal, Verdict, Way};
 use std::io::{BufRead, BufReader, Read, Write};
@@ -77,6 +77,7 @@ fn typed(function: u8, [mode_number, way_number, polygon]: [u32; 3], input: &[u8
         10 => owners_by(input, mode, way).map(counted),
         11 => boundary_by(input, mode, way, polygon).map(of_sides),
         12 => Ok(counted(listing_by(input, mode, way).into_bytes())),
+        13 => write_blob(&whole_numbers(input)).map(counted),
         function => panic!("there is no function {function}"),
     }
 }
@@ -86,6 +87,8 @@ fn mode(number: u32) -> Mode {
     match number {
         0 => Mode::Present,
         1 => Mode::Older,
+        2 => Mode::Blob,
+        3 => Mode::OlderBlob,
         _ => panic!("the crate has no mode {number}"),
     }
 }

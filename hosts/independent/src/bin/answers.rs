@@ -3,7 +3,7 @@
 
 use independent::bridge::Function;
 use independent::entries::{Entry, Input};
-use independent::reading::{read_or_fault, Fault};
+use independent::reading::{read_in, Mode};
 use independent::Refusal;
 use std::io::Write;
 use std::path::Path;
@@ -18,7 +18,7 @@ fn main() {
         let verdict = match Function::Verdict(mode).whole(&input) {
             Ok(success) if success.bytes == [0] => String::from("clean"),
             Ok(_) => String::from("repair"),
-            Err(refusal) => refused(&bytes, refusal),
+            Err(refusal) => refused(mode, &bytes, refusal),
         };
         let listing = input.whole(Entry::ListingBy(mode, 0)).expect("a listing is refused for want of room only").bytes;
         writeln!(out, "{verdict}")
@@ -29,10 +29,9 @@ fn main() {
     out.flush().expect("the answers are written");
 }
 
-/// A refusal in numbers, with its position where reading gives it.
-fn refused(bytes: &[u8], Refusal { code, item }: Refusal) -> String {
-    match read_or_fault(bytes) {
-        Err(Fault { position, .. }) => format!("refused {code} {item} {position}"),
-        Ok(_) => format!("refused {code} {item}"),
-    }
+/// A refusal in numbers, with its position where reading gives one of the codes 1 to 8.
+fn refused(mode: u32, bytes: &[u8], Refusal { code, item }: Refusal) -> String {
+    let fault = Mode::numbered(mode).ok().and_then(|mode| read_in(mode, bytes).err()).filter(|_| code <= 8);
+    let position = fault.map_or(String::new(), |fault| format!(" {}", fault.position));
+    format!("refused {code} {item}{position}")
 }

@@ -1,7 +1,8 @@
 //! `generated FOLDER COUNT [LARGEST]`: writes to a folder the inputs of the seeds 0 to COUNT - 1, as SEED.wkb, and so many
-//! of the largest sheets, of each kind in turn, as largest-PLACE.wkb.
+//! of the largest sheets, of each kind in turn, as largest-PLACE.wkb; and beside each a blob of it, as .gpb, those of the largest
+//! with a header as it should be.
 
-use independent::generate::{extreme, generate};
+use independent::generate::{extreme, generate, in_blob, in_sound_blob};
 use std::path::PathBuf;
 
 fn main() {
@@ -16,7 +17,15 @@ fn main() {
     };
     let folder = PathBuf::from(folder);
     std::fs::create_dir_all(&folder).expect("the folder can be made");
-    let write = |name: String, sheet| std::fs::write(folder.join(name), sheet).expect("the file can be written");
-    (0..count).for_each(|seed| write(format!("{seed:06}.wkb"), generate(seed)));
-    (0..largest).for_each(|place| write(format!("largest-{place:02}.wkb"), extreme(place)));
+    let write = |name: String, bytes| std::fs::write(folder.join(name), bytes).expect("the file can be written");
+    for seed in 0..count {
+        let sheet = generate(seed);
+        write(format!("{seed:06}.gpb"), in_blob(seed, &sheet));
+        write(format!("{seed:06}.wkb"), sheet);
+    }
+    for place in 0..largest {
+        let sheet = extreme(place);
+        write(format!("largest-{place:02}.gpb"), in_sound_blob(place, &sheet));
+        write(format!("largest-{place:02}.wkb"), sheet);
+    }
 }

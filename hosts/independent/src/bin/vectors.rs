@@ -97,6 +97,7 @@ fn entry(name: &str, asked: &str) -> Entry {
         "sheet_owners_by" => Entry::OwnersBy(mode(), way()),
         "sheet_boundary_by" => Entry::BoundaryBy(mode(), way(), polygon()),
         "sheet_listing_by" => Entry::ListingBy(mode(), way()),
+        "sheet_write_blob" => Entry::WriteBlob,
         _ => panic!("unknown entry {name}"),
     }
 }

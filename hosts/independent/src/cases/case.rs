@@ -32,12 +32,32 @@ pub enum Outcome {
     Written,
     /// These numbers are refused: 42.
     NotWritten,
+    /// The input is a blob, and this is said of it where it is read as one.
+    AsBlob(Box<Outcome>),
+    /// It is a blob with this reference-system number and this sheet in it.
+    Holds(i32, Vec<u8>),
+    /// It is refused by this code and item, but its numbers are refused by 52.
+    Unframed(u8, u64),
+    /// These numbers make up this blob.
+    BlobWritten(Vec<u8>),
+    /// These numbers are refused by the blob writer: 42.
+    BlobNotWritten,
 }
 
 impl Case {
-    /// Whether the input is a sheet's and not the writer's.
+    /// Whether the input is a sheet and neither a blob nor a writer's.
     pub fn is_sheet(&self) -> bool {
-        !matches!(self.outcome, Outcome::Written | Outcome::NotWritten)
+        !self.is_of_blobs() && !matches!(self.outcome, Outcome::Written | Outcome::NotWritten)
+    }
+
+    /// Whether the input is a blob.
+    pub fn is_blob(&self) -> bool {
+        matches!(self.outcome, Outcome::AsBlob(_))
+    }
+
+    /// Whether the input is a blob or the blob writer's.
+    pub fn is_of_blobs(&self) -> bool {
+        self.is_blob() || matches!(self.outcome, Outcome::BlobWritten(_) | Outcome::BlobNotWritten)
     }
 }
 
@@ -74,6 +94,11 @@ impl Cases {
     /// A sheet of which this is said in the present mode, and that in the older one.
     pub fn in_modes(&mut self, name: impl Into<String>, sheet: Geometry, this: Outcome, that: Outcome) {
         self.add(name, sheet, Outcome::InModes(Box::new(this), Box::new(that)));
+    }
+
+    /// A blob of which this is said.
+    pub fn blob(&mut self, name: impl Into<String>, blob: impl Into<Vec<u8>>, outcome: Outcome) {
+        self.add(name, blob, Outcome::AsBlob(Box::new(outcome)));
     }
 
     /// A sheet that can't be read, with the position of the field at fault.

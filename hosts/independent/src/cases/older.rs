@@ -172,10 +172,12 @@ mod tests {
     use crate::reading::{read_in, Mode};
     use crate::turning::double_area;
 
+    const OLDER: Mode = Mode { older: true, blob: false };
+
     /// The first ring of polygon 1 in each mode, and its double area in the present one.
     fn rings(name: &str) -> (Vec<crate::Point>, Vec<crate::Point>, i64) {
         let [present, older] =
-            [Mode::Present, Mode::Older].map(|mode| read_in(mode, &named(name)).unwrap().polygons[0][0][0].clone());
+            [Mode::PRESENT, OLDER].map(|mode| read_in(mode, &named(name)).unwrap().sheet.polygons[0][0][0].clone());
         let area = double_area(&present);
         (present, older, area)
     }

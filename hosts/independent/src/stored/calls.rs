@@ -1,9 +1,9 @@
 //! The calls that the program entries_try makes, as its frames, and the lines that it is to print.
 //!
 //! A frame is a byte for the entry (0 numbers, 1 write, 2 owner sets, 3 owners, 4 boundary, 5 listing, 6 position; 7 numbers, 8
-//! owner sets, 9 owners, 10 boundary, 11 listing by a mode and a way), u32 length of the input, u32 number of lent bytes, and the
-//! input, little-endian; before a sheet that the boundary entry takes stands the polygon's number, a u32, before one that the
-//! position entry takes the mode, a u32, and before one that those from 7 on take mode, way and polygon, three u32. A line has
+//! owner sets, 9 owners, 10 boundary, 11 listing by a mode and a way; 12 write blob), u32 length of the input, u32 number of lent
+//! bytes, and the input, little-endian; before a sheet that the boundary entry takes stands the polygon's number, a u32, before one that the
+//! position entry takes the mode, a u32, and before one that those from 7 to 11 take mode, way and polygon, three u32. A line has
 //! the packed answer, a blank, and a checksum of all lent bytes after the call, each 170 before it.
 //!
 //! The calls are few, chosen for what they try; `differ` makes those of all cases, on libsheets.a.
@@ -29,10 +29,19 @@ struct Call {
 const IN_MODES: [&str; 4] =
     ["strip", "clean, both polygons clockwise", "two parts clockwise, in collections", "a later ring of double area 0"];
 
+/// Blobs that the entries are called with in the modes of blobs.
+const BLOBS: [&str; 3] = [
+    "the strip sheet in a little-endian blob with an envelope",
+    "the strip sheet in a big-endian blob without one",
+    "the strip sheet clockwise in a blob",
+];
+
 /// The calls: of each entry document 01's examples and the sheets of the folder examples/, the strip sheet with every room; and
 /// short cases of each code. The boundary entry is asked for polygon 1, and on the strip sheet for all others; the position entry
 /// in mode 0, and on the strip sheet in others. The entries in a mode are called in the older one with the sheets above and the
-/// shortest case of each code, and on the strip sheet in the present one and in modes and ways that aren't known.
+/// shortest case of each code, and on the strip sheet in the present one and in modes and ways that aren't known. In the modes of
+/// blobs they are called with the blobs above and the shortest of each code, of those that go on from a judged sheet of the codes
+/// that blobs alone have. The blob writer has all its cases.
 fn calls() -> Vec<Call> {
     let mut calls = Vec::new();
     let judging = [Entry::OwnerSets, Entry::Owners, Entry::Boundary(1), Entry::Listing];
@@ -45,6 +54,14 @@ fn calls() -> Vec<Call> {
         for case in chosen_in_modes(entry) {
             calls.extend(with_rooms(entry, case));
         }
+    }
+    for entry in by((2, 0, 1)).into_iter().chain(by((3, 0, 1))).chain([Entry::Position(2), Entry::Position(3)]) {
+        for case in chosen_blobs(entry) {
+            calls.extend(with_rooms(entry, case));
+        }
+    }
+    for case in cases::all().into_iter().filter(|case| case.is_of_blobs() && !case.is_blob()) {
+        calls.extend(with_rooms(Entry::WriteBlob, case));
     }
     let strip = cases::named("strip");
     let asked = [0, 2, 3, 65, 257, 1 << 31, u32::MAX].map(Entry::Boundary);
@@ -69,15 +86,34 @@ fn by((mode, way, polygon): (u32, u32, u32)) -> [Entry; 5] {
 
 /// The cases of an entry in a mode: those named above, and of each code the shortest.
 fn chosen_in_modes(entry: Entry) -> Vec<Case> {
+    named(&IN_MODES).chain(shortest(entry, Case::is_sheet).into_values()).collect()
+}
+
+/// The blobs of an entry: those named above, and in mode 2 of each code the shortest, or of each that blobs alone have.
+fn chosen_blobs(entry: Entry) -> Vec<Case> {
+    let mut shortest = shortest(entry, Case::is_blob);
+    match entry {
+        Entry::NumbersBy(2) | Entry::OwnerSetsBy(2) | Entry::Position(2) => (),
+        Entry::OwnersBy(2, _) | Entry::BoundaryBy(2, ..) => shortest.retain(|code, _| (50..=52).contains(code)),
+        _ => shortest.clear(),
+    }
+    named(&BLOBS).chain(shortest.into_values()).collect()
+}
+
+fn named(names: &'static [&str]) -> impl Iterator<Item = Case> {
+    cases::all().into_iter().filter(|case| names.contains(&&case.name[..]))
+}
+
+/// Of each code that the entry gives to such cases the shortest one.
+fn shortest(entry: Entry, such: fn(&Case) -> bool) -> BTreeMap<u8, Case> {
     let mut shortest: BTreeMap<u8, Case> = BTreeMap::new();
-    for case in cases::all().into_iter().filter(|case| case.is_sheet() && case.input.len() <= LONGEST) {
+    for case in cases::all().into_iter().filter(|case| such(case) && case.input.len() <= LONGEST) {
         let place = shortest.entry(code(entry, &case.input)).or_insert_with(|| case.clone());
         if case.input.len() < place.input.len() {
             *place = case;
         }
     }
-    let named = cases::all().into_iter().filter(|case| IN_MODES.contains(&&case.name[..]));
-    named.chain(shortest.into_values()).collect()
+    shortest
 }
 
 /// The cases of an entry: the examples, of the position entry's the strip sheet, and short ones of each code.
@@ -87,7 +123,7 @@ fn chosen(entry: Entry) -> Vec<Case> {
     let examples = cases::examples().into_iter().filter(|case| !writes && (!only_strip || case.name == "strip"));
     let mut seen: BTreeMap<u8, usize> = BTreeMap::new();
     let others = cases::all().into_iter().skip(cases::examples().len());
-    let fitting = others.filter(|case| case.is_sheet() != writes && case.input.len() <= LONGEST);
+    let fitting = others.filter(|case| !case.is_of_blobs() && case.is_sheet() != writes && case.input.len() <= LONGEST);
     let first = fitting.filter(|case| {
         let times = seen.entry(code(entry, &case.input)).or_default();
         *times += 1;
@@ -105,11 +141,14 @@ fn code(entry: Entry, input: &[u8]) -> u8 {
     }
 }
 
-/// The call with just the room that its answer needs, and with 100 bytes where it is refused. The strip sheet, and its numbers:
-/// also with one byte less, none, and nine more. Every refusal of an example: also with none.
+/// The strip sheet, its numbers, and those of a blob, which are tried with every kind of room.
+const WITH_ROOMS: [&str; 3] = ["strip", "the strip sheet's numbers", "a blob's numbers, reference system 7"];
+
+/// The call with just the room that its answer needs, and with 100 bytes where it is refused. Those above: also with one byte
+/// less, none, and nine more. Every refusal of an example: also with none.
 fn with_rooms(entry: Entry, Case { name, input, .. }: Case) -> Vec<Call> {
     let rooms = match whole(entry, &input) {
-        Ok(Success { bytes, .. }) if name == "strip" || name == "the strip sheet's numbers" => {
+        Ok(Success { bytes, .. }) if WITH_ROOMS.contains(&&name[..]) => {
             vec![bytes.len(), bytes.len() - 1, 0, bytes.len() + 9]
         }
         Ok(Success { bytes, .. }) => vec![bytes.len()],
@@ -134,6 +173,7 @@ impl Call {
             Entry::OwnersBy(mode, way) => (9, vec![mode, way, 0]),
             Entry::BoundaryBy(mode, way, polygon) => (10, vec![mode, way, polygon]),
             Entry::ListingBy(mode, way) => (11, vec![mode, way, 0]),
+            Entry::WriteBlob => (12, vec![]),
         };
         let asked: Vec<u8> = asked.iter().flat_map(|number| number.to_le_bytes()).collect();
         let length = (asked.len() + self.input.len()) as u32;
@@ -189,8 +229,10 @@ mod tests {
         let boundary = [&judging[..], &[41]].concat();
         let without = [&reading[..], &[0, 40, 42], &judging, &owners, &boundary, &[0, 40], &[0, 40]];
         let by = |codes: &[u8], more: &[u8]| [codes, more].concat();
-        let repaired = [by(&owners, &[54, 57]), by(&boundary, &[54, 57]), vec![0, 40]];
-        let in_modes = [&[by(&reading, &[57]), by(&judging, &[57])][..], &repaired].concat();
+        let blobs = [50, 51, 52, 57];
+        let repaired =
+            [by(&by(&owners, &blobs), &[54]), by(&by(&boundary, &blobs), &[54]), vec![0, 40], vec![0, 40, 42]];
+        let in_modes = [&[by(&reading, &blobs), by(&judging, &blobs)][..], &repaired].concat();
         let wanted: Vec<Vec<u8>> = without.iter().map(|codes| codes.to_vec()).chain(in_modes).collect();
         let stored: BTreeSet<(u8, u8)> = tried().into_iter().map(|(entry, code, _)| (entry, code)).collect();
         let numbered = wanted.iter().enumerate();
@@ -200,7 +242,7 @@ mod tests {
 
     #[test]
     fn every_room_of_every_entry_is_stored() {
-        for entry in 0..12 {
+        for entry in 0..13 {
             let calls: Vec<_> = tried().into_iter().filter(|tried| tried.0 == entry).collect();
             assert!(calls.contains(&(entry, 0, Some(0))), "exact room for {entry}");
             assert!(calls.contains(&(entry, 0, Some(9))), "lent bytes past the answer for {entry}");
@@ -211,13 +253,13 @@ mod tests {
         let of = |less: fn(usize) -> usize| -> BTreeSet<u8> {
             calls().iter().filter(|call| short(call, less)).map(|call| call.frame()[0]).collect()
         };
-        assert_eq!((of(|length| length - 1), of(|_| 0)), ((0..12).collect(), (0..12).collect()));
+        assert_eq!((of(|length| length - 1), of(|_| 0)), ((0..13).collect(), (0..13).collect()));
     }
 
     #[test]
     fn the_stored_input_is_small() {
         let (frames, lines) = frames_and_lines();
-        assert!(frames.len() < 260_000, "{} bytes", frames.len());
+        assert!(frames.len() < 330_000, "{} bytes", frames.len());
         assert!(lines.split(|byte| *byte == b'\n').count() > 200);
     }
 }

@@ -1,17 +1,20 @@
 //! The calls of an input, and what the independent program answers.
 
-use crate::inputs::Inputs;
-use independent::bridge::{Call, Function, Room};
+use crate::inputs::{Given, Inputs};
+use independent::blob::Header;
+use independent::bridge::{Call, Function, Room, Takes};
 use independent::entries::{fit, Entry, Input, Success};
 use independent::repair::WAYS;
 use independent::{reading, Refusal};
 
-/// A case that is longer has one room and one polygon asked for: some of them take the library a second.
+/// A case that is longer has one room and one polygon asked for: some of them take the library a second. So has a blob that is
+/// refused by its flags, since there are hundreds.
 const LONG: usize = 20_000;
 
-/// The modes that are known, and numbers of none.
+/// The modes that are known, of sheets and of blobs, and numbers of none.
 const MODES: [u32; 2] = [0, 1];
-const NO_MODES: [u32; 6] = [6, 7, 256, 257, 1 << 31, u32::MAX];
+const BLOB_MODES: [u32; 2] = [2, 3];
+const NO_MODES: [u32; 8] = [4, 6, 7, 256, 257, 258, 1 << 31, u32::MAX];
 
 /// Numbers that are no way's.
 const NO_WAYS: [u32; 5] = [2, 7, 256, 1 << 31, u32::MAX];
@@ -30,16 +33,19 @@ pub struct Calls {
 impl Calls {
     /// Adds the calls of an input and their frames.
     pub fn add(&self, place: u64, calls: &mut Vec<Call>, frames: &mut Vec<u8>) {
-        let (sheet, numbers) = self.inputs(place);
-        let (judged, written) = (Input::new(&sheet), Input::new(&numbers));
-        let every = matches!(self.inputs, Inputs::Cases(_)) && sheet.len() < LONG;
-        for (purpose, function) in self.functions(place, &sheet, every).into_iter().enumerate() {
-            let writes = function == Function::Entry(Entry::Write);
-            let (input, bytes) = if writes { (&written, &numbers) } else { (&judged, &sheet) };
-            let answer = function.whole(input);
-            for (room, expected) in self.with_rooms(function, mixed(place, purpose as u64), every, answer) {
+        let given = self.given(place);
+        let of_blobs = self.inputs.of_blobs(place);
+        let inputs = Takes::ALL.map(|takes| Input::new(given.of(takes)));
+        let header = Header::read(&given.blob).err().map_or(0, |fault| fault.refusal.code);
+        let refused = of_blobs && matches!(header, 50 | 51);
+        let every = matches!(self.inputs, Inputs::Cases(_)) && given.sheet.len() < LONG && !refused;
+        for (purpose, function) in self.functions(place, &given.sheet, every).into_iter().enumerate() {
+            let takes = function.takes();
+            let own = of_blobs == matches!(takes, Takes::Blob | Takes::BlobNumbers);
+            let answer = function.whole(&inputs[takes as usize]);
+            for (room, expected) in self.with_rooms(function, mixed(place, purpose as u64), every && own, answer) {
                 let call = Call { input: self.inputs.name(place), function, room, expected };
-                frames.extend(call.frame(bytes));
+                frames.extend(call.frame(given.of(takes)));
                 calls.push(call);
             }
         }
@@ -62,16 +68,28 @@ impl Calls {
     /// The functions that are called on a sheet.
     fn functions(&self, place: u64, sheet: &[u8], every: bool) -> Vec<Function> {
         let polygons = reading::read(sheet).map_or(2, |sheet| sheet.polygons.len() as u32);
+        let of_blobs = self.inputs.of_blobs(place);
+        if matches!(self.inputs, Inputs::Changes(_)) && of_blobs {
+            return self.of_blob(place, 1).into_iter().map(Function::Entry).collect();
+        }
+        // The changes of a sheet and the long cases are tried as they are: of blobs there are others, and the largest sheets' besides.
+        let alone = matches!((&self.inputs, every), (Inputs::Changes(_), _) | (Inputs::Cases(_), false));
+        let with_blob = of_blobs || !alone;
         let mut entries = vec![Entry::Numbers, Entry::Write, Entry::OwnerSets, Entry::Owners, Entry::Listing];
         let largest = matches!(self.inputs, Inputs::Largest(_));
         let asked = asked(place, polygons, every || largest);
         entries.extend(asked.iter().copied().map(Entry::Boundary));
-        entries.extend(match (every, largest) {
-            (true, _) => self.by_all(place, &asked),
-            (false, true) => in_older_mode(),
-            (false, false) => self.by_some(place, asked[0]),
+        entries.extend(match (&self.inputs, every) {
+            (_, true) => [self.by_all(place, &asked), vec![Entry::WriteBlob]].concat(),
+            (Inputs::Largest(_), _) => {
+                [vec![Entry::Position(0), Entry::WriteBlob], in_mode(1), in_mode(2), in_mode(3)].concat()
+            }
+            (Inputs::Cases(_), _) if of_blobs => [in_mode(2), in_mode(3)].concat(),
+            _ if !with_blob => self.by_some(place, asked[0]),
+            _ => [self.by_some(place, asked[0]), self.of_blob(place, asked[0])].concat(),
         });
-        let verdicts = MODES.map(Function::Verdict).into_iter().filter(|_| self.wrapped);
+        let blob_modes = BLOB_MODES.into_iter().filter(|_| with_blob);
+        let verdicts = MODES.into_iter().chain(blob_modes).map(Function::Verdict).filter(|_| self.wrapped);
         entries.into_iter().map(Function::Entry).chain(verdicts).collect()
     }
 
@@ -80,13 +98,14 @@ impl Calls {
         (!self.wrapped).then_some(numbers[number as usize % numbers.len()])
     }
 
-    /// The entries that take a mode, in every mode and a number that is no mode's; in every way and a number that is no way's,
-    /// there with some of the polygons.
+    /// The entries that take a mode, in the modes of the input's own form and a number that is no mode's; in every way and a number
+    /// that is no way's, there with some of the polygons. And each of them once in the modes of the other form.
     fn by_all(&self, place: u64, polygons: &[u32]) -> Vec<Entry> {
+        let (own, other) = if self.inputs.of_blobs(place) { (BLOB_MODES, MODES) } else { (MODES, BLOB_MODES) };
         let no_mode = self.unknown(&NO_MODES, mixed(place, 101));
         let no_way = self.unknown(&NO_WAYS, mixed(place, 102));
-        let mut entries = Vec::new();
-        for mode in MODES.into_iter().chain(no_mode) {
+        let mut entries = other.map(in_mode).concat();
+        for mode in own.into_iter().chain(no_mode) {
             entries.extend([Entry::NumbersBy(mode), Entry::OwnerSetsBy(mode), Entry::Position(mode)]);
             for way in WAYS.into_iter().chain(no_way) {
                 entries.extend([Entry::OwnersBy(mode, way), Entry::ListingBy(mode, way)]);
@@ -101,36 +120,51 @@ impl Calls {
     /// The numbers in the older mode, the position in the present one and in another, and one of the other entries in that: mostly
     /// the older one, and mostly in a known way.
     fn by_some(&self, place: u64, polygon: u32) -> Vec<Entry> {
-        let chosen = |purpose: u64, known: &[u32], others: &[u32]| {
-            let number = mixed(place, purpose);
-            let other = self.unknown(others, number / 8).filter(|_| number % 8 == 0);
-            other.unwrap_or(known[if number % 8 == 1 { 0 } else { known.len() - 1 }])
-        };
-        let (mode, way) = (chosen(101, &MODES, &NO_MODES), chosen(102, &WAYS, &NO_WAYS));
-        let other = match mixed(place, 103) % 4 {
+        let mode = self.chosen(place, 101, &MODES, &NO_MODES);
+        vec![Entry::Position(0), Entry::NumbersBy(1), Entry::Position(mode), self.one(place, 103, mode, polygon)]
+    }
+
+    /// The blob writer, and of a blob the numbers, the position and one of the other entries, each in one of both modes.
+    fn of_blob(&self, place: u64, polygon: u32) -> Vec<Entry> {
+        let [first, second] = [104, 105].map(|purpose| BLOB_MODES[mixed(place, purpose) as usize % 2]);
+        let other = self.one(place, 106, second, polygon);
+        vec![Entry::WriteBlob, Entry::NumbersBy(first), Entry::Position(second), other]
+    }
+
+    /// One of the known numbers, mostly the last, or one that isn't known.
+    fn chosen(&self, place: u64, purpose: u64, known: &[u32], others: &[u32]) -> u32 {
+        let number = mixed(place, purpose);
+        let other = self.unknown(others, number / 8).filter(|_| number % 8 == 0);
+        other.unwrap_or(known[if number % 8 == 1 { 0 } else { known.len() - 1 }])
+    }
+
+    /// One of the entries that judge, in this mode.
+    fn one(&self, place: u64, purpose: u64, mode: u32, polygon: u32) -> Entry {
+        let way = self.chosen(place, 102, &WAYS, &NO_WAYS);
+        match mixed(place, purpose) % 4 {
             0 => Entry::OwnerSetsBy(mode),
             1 => Entry::OwnersBy(mode, way),
             2 => Entry::BoundaryBy(mode, way, polygon),
             _ => Entry::ListingBy(mode, way),
-        };
-        vec![Entry::Position(0), Entry::NumbersBy(1), Entry::Position(mode), other]
+        }
     }
 
-    /// The sheet, and the write function's numbers, of which a wrapper takes whole ones.
-    fn inputs(&self, place: u64) -> (Vec<u8>, Vec<u8>) {
-        let sheet = self.inputs.sheet(place);
-        let mut numbers = self.inputs.numbers(place, &sheet);
+    /// What the functions take; of the writers' numbers a wrapper takes whole ones.
+    fn given(&self, place: u64) -> Given {
+        let mut given = self.inputs.given(place);
         if self.wrapped {
-            numbers.truncate(numbers.len() / 4 * 4);
+            for numbers in [&mut given.numbers, &mut given.blob_numbers] {
+                numbers.truncate(numbers.len() / 4 * 4);
+            }
         }
-        (sheet, numbers)
+        given
     }
 }
 
-/// Each entry that takes a mode, in the older one; and the position in the present one.
-fn in_older_mode() -> Vec<Entry> {
-    let read = [Entry::Position(0), Entry::Position(1), Entry::NumbersBy(1), Entry::OwnerSetsBy(1)];
-    [&read[..], &[Entry::OwnersBy(1, 0), Entry::BoundaryBy(1, 0, 1), Entry::ListingBy(1, 0)]].concat()
+/// Each entry that takes a mode, in this one.
+fn in_mode(mode: u32) -> Vec<Entry> {
+    let read = [Entry::Position(mode), Entry::NumbersBy(mode), Entry::OwnerSetsBy(mode)];
+    [&read[..], &[Entry::OwnersBy(mode, 0), Entry::BoundaryBy(mode, 0, 1), Entry::ListingBy(mode, 0)]].concat()
 }
 
 /// A number that a place and a purpose fix.

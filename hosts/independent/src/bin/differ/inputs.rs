@@ -1,8 +1,9 @@
 //! The inputs to compare on.
 
+use independent::bridge::Takes;
 use independent::cases::{all, fields};
 use independent::entries::{whole, Entry};
-use independent::generate::{extreme, generate, generate_numbers};
+use independent::generate::{extreme, generate, generate_blob_numbers, generate_numbers, in_blob, in_sound_blob};
 
 /// Inputs by their places, 0 to the count less 1.
 pub enum Inputs {
@@ -10,10 +11,34 @@ pub enum Inputs {
     Seeds(u64, u64),
     /// So many of the largest sheets, of each kind in turn.
     Largest(u64),
-    /// The cases made by hand, and a sheet spoiled at each field, by name.
-    Cases(Vec<(String, Vec<u8>)>),
-    /// Sheets, and all that one truncation or one changed byte makes of them.
+    /// The cases made by hand, and a sheet spoiled at each field, by name, and whether they are of blobs.
+    Cases(Vec<(String, Vec<u8>, bool)>),
+    /// Sheets and blobs, and all that one truncation or one changed byte makes of them.
     Changes(Vec<Vec<u8>>),
+}
+
+/// What the functions take that an input is for.
+pub struct Given {
+    /// A sheet.
+    pub sheet: Vec<u8>,
+    /// The writer's numbers.
+    pub numbers: Vec<u8>,
+    /// A blob.
+    pub blob: Vec<u8>,
+    /// The blob writer's numbers.
+    pub blob_numbers: Vec<u8>,
+}
+
+impl Given {
+    /// The one that a function takes.
+    pub fn of(&self, takes: Takes) -> &[u8] {
+        match takes {
+            Takes::Sheet => &self.sheet,
+            Takes::Numbers => &self.numbers,
+            Takes::Blob => &self.blob,
+            Takes::BlobNumbers => &self.blob_numbers,
+        }
+    }
 }
 
 impl Inputs {
@@ -25,8 +50,12 @@ impl Inputs {
             ["seeds", count, first] => Some(Inputs::Seeds(count.parse().ok()?, first.parse().ok()?)),
             ["largest", count] => Some(Inputs::Largest(count.parse().ok()?)),
             ["cases"] => {
-                let cases = all().into_iter().map(|case| (case.name, case.input));
-                Some(Inputs::Cases(cases.chain(fields::spoiled()).collect()))
+                let cases = all().into_iter().map(|case| {
+                    let of_blobs = case.is_of_blobs();
+                    (case.name, case.input, of_blobs)
+                });
+                let spoiled = fields::spoiled().into_iter().map(|(name, input)| (name, input, false));
+                Some(Inputs::Cases(cases.chain(spoiled).collect()))
             }
             ["changes", ref files @ ..] => {
                 let sheets: Result<_, _> = files.iter().map(std::fs::read).collect();
@@ -55,8 +84,34 @@ impl Inputs {
         }
     }
 
+    /// What the functions take at this place.
+    pub fn given(&self, place: u64) -> Given {
+        let sheet = self.sheet(place);
+        let numbers = self.numbers(place, &sheet);
+        let blob = match self {
+            _ if self.of_blobs(place) => sheet.clone(),
+            Inputs::Seeds(_, first) => in_blob(first + place, &sheet),
+            _ => in_sound_blob(place, &sheet),
+        };
+        let blob_numbers = match self {
+            Inputs::Seeds(_, first) if (first + place) % 8 == 0 => generate_blob_numbers(first + place),
+            Inputs::Cases(_) | Inputs::Changes(_) if !self.of_blobs(place) => [&[7, 1, 0, 128], &numbers[..]].concat(),
+            _ => whole(Entry::NumbersBy(2), &blob).map_or(blob.clone(), |success| success.bytes),
+        };
+        Given { sheet, numbers, blob, blob_numbers }
+    }
+
+    /// Whether the input is a blob or the blob writer's. That of a blob's file is one, whatever is changed.
+    pub fn of_blobs(&self, place: u64) -> bool {
+        match self {
+            Inputs::Cases(cases) => cases[place as usize].2,
+            Inputs::Changes(sheets) => changed_sheet(sheets, place).0.starts_with(b"GP"),
+            _ => false,
+        }
+    }
+
     /// The sheet entries' input.
-    pub fn sheet(&self, place: u64) -> Vec<u8> {
+    fn sheet(&self, place: u64) -> Vec<u8> {
         match self {
             Inputs::Seeds(_, first) => generate(first + place),
             Inputs::Largest(_) => extreme(place),
@@ -70,7 +125,7 @@ impl Inputs {
 
     /// The write entry's input: at every eighth seed generated numbers; of a changed sheet, its numbers form changed
     /// as many times as that can be; else the numbers form of the sheet, or the sheet itself where it can't be read.
-    pub fn numbers(&self, place: u64, sheet: &[u8]) -> Vec<u8> {
+    fn numbers(&self, place: u64, sheet: &[u8]) -> Vec<u8> {
         match self {
             Inputs::Seeds(_, first) if (first + place) % 8 == 0 => return generate_numbers(first + place),
             Inputs::Changes(sheets) => {

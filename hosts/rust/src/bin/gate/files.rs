@@ -67,10 +67,40 @@ pub fn read(path: &OsStr) -> Result<Vec<u8>, String> {
     first_bytes(file)
 }
 
-/// Does the name end as a sheet file's does?
-fn is_sheet_name(path: &Path) -> bool {
-    let name = path.as_os_str().as_bytes();
-    name.len() >= 4 && name[name.len() - 4..].eq_ignore_ascii_case(b".wkb")
+/// What is looked for in a folder.
+#[derive(Clone, Copy)]
+pub struct Look {
+    /// Only in the folder itself.
+    pub flat: bool,
+    /// Blobs, and not sheets.
+    pub blobs: bool,
+}
+
+impl Look {
+    /// Does the name end as a sheet file's or a blob file's does?
+    fn is_name(self, path: &Path) -> bool {
+        let end = if self.blobs { b".gpb" } else { b".wkb" };
+        let name = path.as_os_str().as_bytes();
+        name.len() >= 4 && name[name.len() - 4..].eq_ignore_ascii_case(end)
+    }
+
+    /// Why a file is passed over whose name ends otherwise.
+    fn other_name(self) -> &'static str {
+        if self.blobs {
+            "its name doesn't end in .gpb"
+        } else {
+            "its name doesn't end in .wkb"
+        }
+    }
+
+    /// Why a folder without such files could not be read.
+    fn nothing(self) -> &'static str {
+        if self.blobs {
+            "there is no blob in it, no file whose name ends in .gpb"
+        } else {
+            "there is no sheet in it, no file whose name ends in .wkb"
+        }
+    }
 }
 
 /// What the words of the command come to, in their order, and the folders still to be looked into.
@@ -95,28 +125,28 @@ impl Found {
     }
 
     /// Puts a thing in a folder where it belongs. A link stands for what it leads to; one that leads nowhere stands for a file.
-    fn place(&mut self, path: PathBuf, kind: FileType, flat: bool) {
+    fn place(&mut self, path: PathBuf, kind: FileType, look: Look) {
         let there = if kind.is_symlink() { std::fs::metadata(&path).ok().map(|there| there.file_type()) } else { Some(kind) };
         let folder = there.is_some_and(|there| there.is_dir());
         match there.and_then(irregular) {
             Some(_) if folder && kind.is_symlink() => self.pass(path, "it is a link to a folder"),
-            Some(_) if folder && !flat => self.folders.push(path),
-            Some(_) if folder && !is_sheet_name(&path) => self.pass(path, "it is a folder, and --flat leaves those out"),
+            Some(_) if folder && !look.flat => self.folders.push(path),
+            Some(_) if folder && !look.is_name(&path) => self.pass(path, "it is a folder, and --flat leaves those out"),
             Some(why) => self.unread(path, why),
-            None if is_sheet_name(&path) => self.take(path),
-            None => self.pass(path, "its name doesn't end in .wkb"),
+            None if look.is_name(&path) => self.take(path),
+            None => self.pass(path, look.other_name()),
         }
     }
 
     /// Goes over what one folder has in it.
-    fn look_into(&mut self, folder: &Path, flat: bool) {
+    fn look_into(&mut self, folder: &Path, look: Look) {
         let entries = match std::fs::read_dir(folder) {
             Ok(entries) => entries,
             Err(error) => return self.unread(folder, reason(&error)),
         };
         for entry in entries {
             match entry.and_then(|entry| Ok((entry.path(), entry.file_type()?))) {
-                Ok((path, kind)) => self.place(path, kind, flat),
+                Ok((path, kind)) => self.place(path, kind, look),
                 Err(error) => self.unread(folder, reason(&error)),
             }
         }
@@ -124,13 +154,13 @@ impl Found {
 }
 
 /// The sheet files of a folder and of those below it, by the bytes of their paths.
-fn of_folder(folder: &Path, flat: bool) -> Found {
+fn of_folder(folder: &Path, look: Look) -> Found {
     let mut found = Found { folders: vec![folder.to_path_buf()], ..Found::default() };
     while let Some(next) = found.folders.pop() {
-        found.look_into(&next, flat);
+        found.look_into(&next, look);
     }
     if found.candidates.is_empty() {
-        found.unread(folder, "there is no sheet in it, no file whose name ends in .wkb");
+        found.unread(folder, look.nothing());
     }
     found.candidates.sort_by(|a, b| a.name.as_bytes().cmp(b.name.as_bytes()));
     found.passed.sort_by(|a, b| a.name.as_bytes().cmp(b.name.as_bytes()));
@@ -138,11 +168,11 @@ fn of_folder(folder: &Path, flat: bool) -> Found {
 }
 
 /// What the paths of the command come to: a folder stands for the sheet files in it, anything else for itself.
-pub fn find(paths: &[OsString], flat: bool) -> Found {
+pub fn find(paths: &[OsString], look: Look) -> Found {
     let mut found = Found::default();
     for path in paths {
         if path != "-" && Path::new(path).is_dir() {
-            let below = of_folder(Path::new(path), flat);
+            let below = of_folder(Path::new(path), look);
             found.candidates.extend(below.candidates);
             found.passed.extend(below.passed);
         } else {

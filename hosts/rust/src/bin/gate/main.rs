@@ -13,12 +13,12 @@ use std::sync::atomic::{AtomicUsize, Ordering};
 use std::sync::mpsc;
 use std::time::{Duration, Instant};
 
-use files::Candidate;
+use files::{Candidate, Look};
 use lines::Outcome;
 use names::shown;
 use sheets::Mode;
 
-const HELP: &str = "usage: gate [--json] [--flat] [--older] PATH..
+const HELP: &str = "usage: gate [--json] [--flat] [--older] [--blob] PATH..
 Checks sheet files on all cores, and prints a verdict line for each, in the order of the command, and a summary.
   FILE: clean, FILE: repair, FILE: refused CODE ITEM: WHY, or FILE: could not be read: WHY
 With the codes 1 to 8 it is refused CODE ITEM at byte N: WHY, where N is the place of the fault in the file, 0 for its first byte.
@@ -27,6 +27,7 @@ paths. What is passed over in a folder is said on standard error and counted in 
   --json       one JSON object on a line for each file, and one for the summary
   --flat       only the files of a folder itself
   --older      the sheets are of the older edition: rings that run the wrong way are turned
+  --blob       each file is a geometry blob of a GeoPackage table, with a sheet in it; in a folder their names end in .gpb
   -h, --help   this text
   --version    the version
   --           every word behind it is a path
@@ -75,7 +76,8 @@ impl Command {
                 b"--version" => finish(concat!("gate ", env!("CARGO_PKG_VERSION"), "\n")),
                 b"--json" => command.json = true,
                 b"--flat" => command.flat = true,
-                b"--older" => command.mode = Mode::Older,
+                b"--older" => command.mode = command.mode.older(),
+                b"--blob" => command.mode = command.mode.of_blobs(),
                 b"--" => only_paths = true,
                 text => {
                     let name = shown(text);
@@ -185,7 +187,7 @@ fn main() {
     if command.paths.iter().filter(|path| *path == "-").count() > 1 {
         refuse("standard input can be named only once");
     }
-    let found = files::find(&command.paths, command.flat);
+    let found = files::find(&command.paths, Look { flat: command.flat, blobs: command.mode.is_blob() });
     for passed in &found.passed {
         say(&format!("gate: {}: passed over: {}\n", shown(passed.name.as_bytes()), passed.why));
     }

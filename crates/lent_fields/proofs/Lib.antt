@@ -1,0 +1,4 @@
+-- The laws of fields.
+pub mod Remains
+pub mod Doubles
+pub mod Fields

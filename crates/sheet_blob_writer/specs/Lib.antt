@@ -1,0 +1,2 @@
+-- What the blob writer's code reads off the numbers.
+pub mod Corners

@@ -1,0 +1,3 @@
+-- The laws of writing blobs.
+pub mod Trip
+pub mod Given

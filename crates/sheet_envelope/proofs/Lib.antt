@@ -1,0 +1,2 @@
+-- The laws of the envelope.
+pub mod Same

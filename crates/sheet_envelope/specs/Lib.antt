@@ -1,0 +1,3 @@
+-- The envelope of a GeoPackage geometry.
+pub mod Envelope
+pub mod Written

@@ -1,0 +1,2 @@
+-- The laws of a table's corners and its frame.
+pub mod Corners

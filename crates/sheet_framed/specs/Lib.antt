@@ -1,0 +1,2 @@
+-- A blob's envelope and the frame of the table.
+pub mod Framed

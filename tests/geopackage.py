@@ -1,0 +1,165 @@
+#!/usr/bin/python3
+"""Blobs between the library, GDAL and SQLite: those of a GeoPackage that GDAL writes are read, and are the library's own byte for byte; those that the library
+writes, put into a table by SQLite, are read by GDAL and by SQLite.
+
+    /usr/bin/python3 tests/geopackage.py BRIDGE CHECKER GATE    'N passed, M failed', with Debian's Python, which has GDAL (python3-gdal)
+
+BRIDGE, CHECKER and GATE are commands, with an emulator before them where one is needed.
+"""
+import glob
+import os
+import sqlite3
+import struct
+import subprocess
+import sys
+import tempfile
+
+from osgeo import gdal, ogr, osr
+
+from tally import tally
+
+EXAMPLES = os.path.join(os.path.dirname(os.path.dirname(os.path.abspath(__file__))), "examples")
+ROOM = 158_330
+NUMBERS_BY, WRITE_BLOB, BLOB = 8, 13, 2
+# The tables: a reference system by its EPSG code, or none, and the number that GDAL gives it.
+TABLES = {"utm": (25832, 25832), "degrees": (4326, 4326), "plain": (None, 0)}
+# A sheet whose frame has four different bounds, which the examples have not.
+FAR = """GEOMETRYCOLLECTION (TIN (((-3 20,10000000 20,10000000 24,-3 20)),((-3 20,10000000 24,-3 24,-3 20))),
+    POLYGON ((-3 20,10000000 20,10000000 24,-3 24,-3 20)))"""
+# What a user of SQLite asks of a blob, by the functions of the standard: the header's envelope and number, whether it is empty, and what it is.
+ASKED = "ST_MinX(geom), ST_MaxX(geom), ST_MinY(geom), ST_MaxY(geom), ST_SRID(geom), ST_IsEmpty(geom), ST_GeometryType(geom)"
+
+
+def equal(what, got, wanted):
+    """Is it as it should be? What is not is printed."""
+    if got != wanted:
+        print("%s:\n  got    %s\n  wanted %s" % (what, str(got)[:1000], str(wanted)[:1000]))
+    return got == wanted
+
+
+def call(bridge, function, mode, given):
+    """The code of an entry's answer, and what it writes, whose item is its length."""
+    frame = struct.pack("<B5I", function, mode, 0, 0, len(given), ROOM) + given
+    printed = subprocess.run(bridge.split(), input=frame, stdout=subprocess.PIPE, check=True).stdout
+    packed, lent = struct.unpack("<Q", printed[:8])[0], printed[8:]
+    return packed % 256, lent[:packed // 256] if packed % 256 == 0 else b""
+
+
+def sheets():
+    """Sheets that GDAL takes, by name: the examples whose table has triangles and no polygons for pieces, and one far away."""
+    found = {}
+    for path in sorted(glob.glob(os.path.join(EXAMPLES, "*.wkb"))):
+        with open(path, "rb") as f:
+            found[os.path.basename(path)[:-4]] = f.read()
+    del found["nested"]
+    return {**found, "far": bytes(ogr.CreateGeometryFromWkt(FAR).ExportToIsoWkb(ogr.wkbNDR))}
+
+
+def table_of(package, name, code):
+    """A table in a GeoPackage."""
+    system = None
+    if code is not None:
+        system = osr.SpatialReference()
+        system.ImportFromEPSG(code)
+    return package.CreateLayer(name, system, ogr.wkbUnknown, ["SPATIAL_INDEX=NO", "FID=fid", "GEOMETRY_NAME=geom"])
+
+
+def put(table, geometry):
+    feature = ogr.Feature(table.GetLayerDefn())
+    feature.SetGeometry(geometry)
+    table.CreateFeature(feature)
+
+
+def write(path, geometries):
+    """A GeoPackage by GDAL, whose tables have these geometries each."""
+    package = ogr.GetDriverByName("GPKG").CreateDataSource(path)
+    for name, (code, _) in TABLES.items():
+        table = table_of(package, name, code)
+        for geometry in geometries:
+            put(table, geometry)
+
+
+def blobs_of(path, name):
+    """The blobs of a table, by SQLite."""
+    with sqlite3.connect(path) as base:
+        return [blob for blob, in base.execute("SELECT geom FROM %s ORDER BY fid" % name)]
+
+
+def verdicts(command, folder, names, end, *words):
+    """What a program says of the files of these names, without their names."""
+    paths = [os.path.join(folder, name + end) for name in names]
+    printed = subprocess.run(command.split() + list(words) + paths, stdout=subprocess.PIPE).stdout.decode()
+    return [said.partition(end + ":")[2] for said in printed.splitlines()][:len(names)]
+
+
+def read_and_written(bridge, checker, gate, path):
+    """GDAL's blobs are read with the table's number, their verdicts are those of the sheets, and the library writes the same bytes."""
+    outcomes, known = [], sheets()
+    for table, (_, system) in TABLES.items():
+        blobs = dict(zip(known, blobs_of(path, table)))
+        for name, blob in blobs.items():
+            numbers = call(bridge, NUMBERS_BY, 0, known[name])[1]
+            of_blob = struct.pack("<i", system) + numbers
+            outcomes.append(equal("%s in %s, its numbers" % (name, table), call(bridge, NUMBERS_BY, BLOB, blob), (0, of_blob)))
+            outcomes.append(equal("%s in %s, written" % (name, table), call(bridge, WRITE_BLOB, 0, of_blob), (0, blob)))
+        with tempfile.TemporaryDirectory() as folder:
+            for end, files in ((".wkb", known), (".gpb", blobs)):
+                for name, content in files.items():
+                    with open(os.path.join(folder, name + end), "wb") as f:
+                        f.write(content)
+            for command in (checker + " --batch", gate):
+                plain = verdicts(command, folder, known, ".wkb")
+                outcomes.append(equal("verdicts of " + table, verdicts(command, folder, known, ".gpb", "--blob"), plain))
+    return outcomes
+
+
+def put_by_sqlite(bridge, path):
+    """Puts the library's blobs into a table, in another order than GDAL's were; the row of each sheet."""
+    known = sheets()
+    rows = dict(zip(known, range(len(known), 0, -1)))
+    with sqlite3.connect(path) as base:
+        for name, sheet in known.items():
+            numbers = call(bridge, NUMBERS_BY, 0, sheet)[1]
+            base.execute("UPDATE utm SET geom = ? WHERE fid = ?", (call(bridge, WRITE_BLOB, 0, struct.pack("<i", 25832) + numbers)[1], rows[name]))
+    return rows
+
+
+def read_by_others(path, rows):
+    """The library's blobs are read by GDAL as the sheets that they hold, and by SQLite's users as the header with the frame, by the bytes and by functions."""
+    outcomes, known = [], sheets()
+    package = ogr.Open(path)
+    table = package.GetLayerByName("utm")
+    outcomes.append(equal("the reference system", table.GetSpatialRef().GetAuthorityCode(None), "25832"))
+    blobs = dict(enumerate(blobs_of(path, "utm"), 1))
+    for name, fid in rows.items():
+        feature = table.GetFeature(fid)
+        geometry = feature.GetGeometryRef()
+        outcomes.append(equal(name + " by GDAL", bytes(geometry.ExportToIsoWkb(ogr.wkbNDR)), known[name]))
+        frame = geometry.GetGeometryRef(0).GetEnvelope()
+        outcomes.append(equal(name + ", the bytes", blobs[fid], struct.pack("<2s2Bi4d", b"GP", 0, 3, 25832, *frame) + known[name]))
+        answers = package.ExecuteSQL("SELECT %s FROM utm WHERE fid = %d" % (ASKED, fid))
+        answer = answers.GetNextFeature()
+        got = [answer.GetField(k) for k in range(answer.GetFieldCount())]
+        package.ReleaseResultSet(answers)
+        outcomes.append(equal(name + " by SQL", got, [*frame, 25832, 0, "GEOMETRYCOLLECTION"]))
+    return outcomes
+
+
+def refused(bridge, path):
+    """What GDAL writes of an empty geometry, and of one with heights, is refused: 50, 51."""
+    write(path, [ogr.CreateGeometryFromWkt(text) for text in ("GEOMETRYCOLLECTION EMPTY", "GEOMETRYCOLLECTION Z (TIN Z (((0 0 1,2 0 1,2 4 1,0 0 1))))")])
+    return [equal("strange blobs of " + table, [call(bridge, NUMBERS_BY, BLOB, blob)[0] for blob in blobs_of(path, table)], [50, 51]) for table in TABLES]
+
+
+def main(bridge, checker, gate):
+    ogr.UseExceptions()
+    gdal.PushErrorHandler("CPLQuietErrorHandler")  # it says that a table with a TIN isn't every program's
+    with tempfile.TemporaryDirectory() as folder:
+        path = os.path.join(folder, "sheets.gpkg")
+        write(path, [ogr.CreateGeometryFromWkb(sheet) for sheet in sheets().values()])
+        outcomes = read_and_written(bridge, checker, gate, path) + read_by_others(path, put_by_sqlite(bridge, path))
+        return tally(outcomes + refused(bridge, os.path.join(folder, "strange.gpkg")))
+
+
+if __name__ == "__main__":
+    sys.exit(main(*sys.argv[1:]))
