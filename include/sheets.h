@@ -13,7 +13,7 @@
        long the answer is (in bytes, triangles or sides, as said below).
      - Any other code is a refusal: no lent byte has changed.
      - It always returns, reads only the input, writes only lent bytes, and allocates nothing. It keeps no state, so any number of threads may call any
-       entries at once. A thread that calls needs 512 KiB of free stack, SHEETS_STACK.
+       entries at once. A thread that calls needs 640 KiB of free stack, SHEETS_STACK.
 
    The codes are those of refusals.def, beside this file: what each item is, and a sentence for each. The item of codes 1 to 6 and 8 is a member, the place in
    the sheet, the table being 1 and 0 the sheet's own header. Triangles and polygons are numbered from 1, in order. Below, an entry's refusals stand in the
@@ -54,7 +54,7 @@ extern "C" {
 #define SHEETS_WAY_PRIORITY 0
 
 /* Free stack that a calling thread needs, in bytes. */
-#define SHEETS_STACK 524288
+#define SHEETS_STACK 655360
 
 /* So many bytes of a file are always enough to read the sheet in it: what an entry answers on the first so many of longer ones is what it answers on
    all. The longest sheet has 185,938 bytes, and no input is looked at beyond 185,978 before it is refused, a blob's 40 bytes more each; docs/DECISIONS.md

@@ -1,5 +1,5 @@
 // The entries of sheets.h as C++17 functions over ordinary types: the room for an answer is inside, and an empty input may come with any pointer.
-// The Rust crate has the same functions. Any number of threads may call them at once; a call needs 512 KiB of free stack.
+// The Rust crate has the same functions. Any number of threads may call them at once; a call needs 640 KiB of free stack.
 #ifndef SHEETS_HPP
 #define SHEETS_HPP
 

@@ -39,14 +39,32 @@ fn judge_in(
     }
 }
 
-// The sheet in numbers: its owner sets, laid down at the front of the lent ones, and beside them the number of the reverse of each side; or the
-// refusal.
-fn judge(numbers: &[u32], around: Around, opposite: &mut [usize], sets: &mut [u64]) -> Owning
-    requires { ⌜ ((n : Sheet) × SheetHeld members n (now numbers)) × (3072 ≤ length (now opposite)) × (1024 ≤ length (now sets)) ⌝ }
-    ensures { λ r. ⌜ ((n : Sheet) → SheetHeld members n (now (numbers .entry)) → OwnedOf (framed (aroundOf around) n) n r (now (opposite .exit)) (now (sets .exit))) ⌝ }
+// The sheet in numbers with at most 64 triangles, judged in short work lists.
+fn judge_few(numbers: &[u32], around: Around, opposite: &mut [usize], sets: &mut [u64]) -> Owning
+    requires { ⌜ ((n : Sheet) × SheetHeld members n (now numbers) × (length (n .table) ≡ length (now sets))) × (length (now opposite) ≡ 3 * length (now sets)) × (length (now sets) ≤ 64) ⌝ }
+    ensures { λ r. ⌜ ((n : Sheet) → SheetHeld members n (now (numbers .entry)) → length (n .table) ≡ length (now (sets .entry)) → OwnedOf (framed (aroundOf around) n) n r (now (opposite .exit)) (now (sets .exit))) ⌝ }
 {
-    let t = (numbers[0] - OFFSET) as usize;
-    let m = 3 * t;
+    let m = opposite.len();
+    let mut keys = [0u64; 192];
+    let mut ordered = [0u64; 192];
+    let mut index = [0u64; 192];
+    judge_in(
+        numbers,
+        around,
+        &mut keys[..m],
+        &mut ordered[..m],
+        &mut index[..m],
+        opposite,
+        sets,
+    )
+}
+
+// The sheet in numbers with any triangles, judged in long work lists.
+fn judge_many(numbers: &[u32], around: Around, opposite: &mut [usize], sets: &mut [u64]) -> Owning
+    requires { ⌜ ((n : Sheet) × SheetHeld members n (now numbers) × (length (n .table) ≡ length (now sets))) × (length (now opposite) ≡ 3 * length (now sets)) ⌝ }
+    ensures { λ r. ⌜ ((n : Sheet) → SheetHeld members n (now (numbers .entry)) → length (n .table) ≡ length (now (sets .entry)) → OwnedOf (framed (aroundOf around) n) n r (now (opposite .exit)) (now (sets .exit))) ⌝ }
+{
+    let m = opposite.len();
     let mut keys = [0u64; 3072];
     let mut ordered = [0u64; 3072];
     let mut index = [0u64; 3072];
@@ -56,9 +74,31 @@ fn judge(numbers: &[u32], around: Around, opposite: &mut [usize], sets: &mut [u6
         &mut keys[..m],
         &mut ordered[..m],
         &mut index[..m],
-        &mut opposite[..m],
-        &mut sets[..t],
+        opposite,
+        sets,
     )
+}
+
+// The sheet in numbers over lists as long as its table asks, judged in short work lists where these do.
+fn judge_over(numbers: &[u32], around: Around, opposite: &mut [usize], sets: &mut [u64]) -> Owning
+    requires { ⌜ ((n : Sheet) × SheetHeld members n (now numbers) × (length (n .table) ≡ length (now sets))) × (length (now opposite) ≡ 3 * length (now sets)) ⌝ }
+    ensures { λ r. ⌜ ((n : Sheet) → SheetHeld members n (now (numbers .entry)) → length (n .table) ≡ length (now (sets .entry)) → OwnedOf (framed (aroundOf around) n) n r (now (opposite .exit)) (now (sets .exit))) ⌝ }
+{
+    if sets.len() <= 64 {
+        return judge_few(numbers, around, opposite, sets);
+    }
+    judge_many(numbers, around, opposite, sets)
+}
+
+// The sheet in numbers: its owner sets, laid down at the front of the lent ones, and beside them the number of the reverse of each side; or the
+// refusal.
+fn judge(numbers: &[u32], around: Around, opposite: &mut [usize], sets: &mut [u64]) -> Owning
+    requires { ⌜ ((n : Sheet) × SheetHeld members n (now numbers)) × (3072 ≤ length (now opposite)) × (1024 ≤ length (now sets)) ⌝ }
+    ensures { λ r. ⌜ ((n : Sheet) → SheetHeld members n (now (numbers .entry)) → OwnedOf (framed (aroundOf around) n) n r (now (opposite .exit)) (now (sets .exit))) ⌝ }
+{
+    let t = (numbers[0] - OFFSET) as usize;
+    let m = 3 * t;
+    judge_over(numbers, around, &mut opposite[..m], &mut sets[..t])
 }
 
 // Reads the sheet in a mode and judges its polygons. On success the sheet in numbers, the number of the reverse of each side of its table, and the owner

@@ -27,16 +27,17 @@ use Rattle.owners.specs.Judging.{carried, judge}
 use Rattle.owners.specs.Owners.{stageOf, judgeFrom}
 use Rattle.owners_judge.specs.Judged.{judgedOf}
 use Rattle.judged_sets.specs.declared.Turn.{Turn}
-use Rattle.judged_sets.specs.Owning.{PolygonAt, PolygonsAt, TurnOf, heldSets}
+use Rattle.judged_sets.specs.Owning.{PolygonAt, PolygonsAt, EdgeRoom, TurnOf, heldSets}
+use Rattle.judged_sets.proofs.Room.{edges-room}
 
 -- ---- the edges of one polygon
 module _ {numbers : List ℕ} {at : ℕ} {from₀ to₀ from to : List ℕ} {r : Laid} {m : Member} {rest : List ℤ} where
   -- As many edges as are laid down have room in both lists.
-  pub laid-room : LaysDown numbers at from₀ to₀ from to r → PolygonAt numbers at m rest → length from₀ ≡ 4096 → length to₀ ≡ 4096 → (r .fill ≤ length from) × (r .fill ≤ length to)
-  laid-room d s f t = let e = d .many m rest (s .numbers-at) in (omega (arith, e, s .few, d .from-length, f), omega (arith, e, s .few, d .to-length, t))
+  pub laid-room : LaysDown numbers at from₀ to₀ from to r → PolygonAt numbers at m rest → EdgeRoom numbers from₀ → EdgeRoom numbers to₀ → (r .fill ≤ length from) × (r .fill ≤ length to)
+  laid-room d s f t = let e = d .many m rest (s .numbers-at) in (omega (arith, e, edges-room from₀ s f, d .from-length), omega (arith, e, edges-room to₀ s t, d .to-length))
 
   -- What is laid down are edges from corners to corners.
-  pub laid-edged : LaysDown numbers at from₀ to₀ from to r → PolygonAt numbers at m rest → length from₀ ≡ 4096 → length to₀ ≡ 4096 → Edged (take (r .fill) from) (take (r .fill) to)
+  pub laid-edged : LaysDown numbers at from₀ to₀ from to r → PolygonAt numbers at m rest → EdgeRoom numbers from₀ → EdgeRoom numbers to₀ → Edged (take (r .fill) from) (take (r .fill) to)
   laid-edged d s f t =
       let w = laid-room d s f t in
       let a = length-take-le (r .fill) from (w .0) in

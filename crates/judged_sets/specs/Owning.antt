@@ -2,7 +2,7 @@
 use mathlib.Core.Path.{_≡_}
 use mathlib.Core.Bool.{Bool}
 use mathlib.Core.List.{List, map}
-use Prim.Native.Nat.{ℕ, _≤_}
+use Prim.Native.Nat.{ℕ, _*_, _≤_}
 use lib.IntN.{ℤ}
 use lib.ListN.{length, take, drop}
 use Rattle.whole.specs.Sums.{All}
@@ -35,6 +35,10 @@ pub record PolygonsAt (numbers : List ℕ) (at : ℕ) (ms : List Member) (rest :
   pub stand : NumbersAt (counted memberNumbers) numbers at ms rest
   pub many : length ms ≤ 64
   pub few : All (λ m. length (memberEdges m) ≤ 4096) ms
+
+-- A list has room for the edges of each polygon that can stand among the numbers: at most 4,096, and at most half as many as the numbers.
+abbrev pub EdgeRoom : List ℕ → List ℕ → Type 0
+EdgeRoom numbers l = (k : ℕ) → k ≤ 4096 → 2 * k ≤ length numbers → k ≤ length l
 
 -- The polygons judged in number order, the owners of each triangle as the 64-bit set that the code makes of them.
 abbrev pub heldSets : List Triangle → List Member → Answer (List ℕ)

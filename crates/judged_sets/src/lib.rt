@@ -12,8 +12,8 @@ ghost use Rattle.table.specs.Sides.{trianglesOf};
 ghost use Rattle.sheet_form.specs.Numbers.{Sheet, members};
 ghost use Rattle.sheet.specs.Held.{SheetHeld};
 ghost use Rattle.table_count.specs.Indexed.{Indexed};
-ghost use Rattle.owners_judge.specs.Preparing.{Prepared};
-ghost use Rattle.judged_sets.specs.Owning.{PolygonAt, TurnOf, PolygonsAt, heldSets, ownedAs, OneEach};
+ghost use Rattle.owners_judge.specs.Preparing.{Prepared, WorkLists};
+ghost use Rattle.judged_sets.specs.Owning.{PolygonAt, TurnOf, PolygonsAt, EdgeRoom, heldSets, ownedAs, OneEach};
 use owners_judge::Judging;
 use plane::OFFSET;
 
@@ -36,16 +36,17 @@ fn judge_at(
     ordered: &[u64],
     index: &[u64],
     opposite: &[usize],
-    order: &[usize],
     from: &mut [u64],
     to: &mut [u64],
     counts: &mut [u32],
+    touched: &mut [usize],
     labels: &mut [bool],
+    group: &mut [usize],
 ) -> Turn
-    requires { ⌜ ((keys : List ℕ) × Prepared keys (now ordered) (now index) (now opposite) (now order) × (length (now counts) ≡ length keys) × (length (now labels) ≡ length (trianglesOf keys)))
-        × All Held (now numbers) × ((m : Member) × (rest : List ℤ) × PolygonAt (now numbers) at m rest) × (length (now from) ≡ 4096) × (length (now to) ≡ 4096) ⌝ }
-    ensures { λ r. ⌜ ((keys : List ℕ) (m : Member) (rest : List ℤ) → Prepared keys (now (ordered .entry)) (now (index .entry)) (now (opposite .entry)) (now (order .entry)) → length (now (counts .entry)) ≡ length keys
-        → length (now (labels .entry)) ≡ length (trianglesOf keys) → PolygonAt (now (numbers .entry)) at m rest → TurnOf (trianglesOf keys) (now (numbers .entry)) m rest r (now (labels .exit))) ⌝ }
+    requires { ⌜ ((keys : List ℕ) × Prepared keys (now ordered) (now index) (now opposite) × WorkLists keys (now counts) (now touched) (now labels) (now group))
+        × All Held (now numbers) × ((m : Member) × (rest : List ℤ) × PolygonAt (now numbers) at m rest) × EdgeRoom (now numbers) (now from) × EdgeRoom (now numbers) (now to) ⌝ }
+    ensures { λ r. ⌜ ((keys : List ℕ) (m : Member) (rest : List ℤ) → Prepared keys (now (ordered .entry)) (now (index .entry)) (now (opposite .entry))
+        → WorkLists keys (now (counts .entry)) (now (touched .entry)) (now (labels .entry)) (now (group .entry)) → PolygonAt (now (numbers .entry)) at m rest → TurnOf (trianglesOf keys) (now (numbers .entry)) m rest r (now (labels .exit))) ⌝ }
 {
     let laid = sheet_edges::polygon(numbers, at, from, to);
     let n = laid.fill;
@@ -53,11 +54,12 @@ fn judge_at(
         ordered,
         index,
         opposite,
-        order,
         &from[..n],
         &to[..n],
         counts,
+        touched,
         labels,
+        group,
     );
     Turn {
         judging: judging,
@@ -65,25 +67,27 @@ fn judge_at(
     }
 }
 
-// Judges the polygons in number order: the owner sets, or the refusal of the first polygon that is refused.
+// Judges the polygons in number order, the edges of each laid down in two lists: the owner sets, or the refusal of the first polygon that is refused.
 fn polygons(
     numbers: &[u32],
     first: usize,
     ordered: &[u64],
     index: &[u64],
     opposite: &[usize],
-    order: &[usize],
+    from: &mut [u64],
+    to: &mut [u64],
     counts: &mut [u32],
+    touched: &mut [usize],
     labels: &mut [bool],
+    group: &mut [usize],
     sets: &mut [u64],
 ) -> Owning
-    requires { ⌜ ((keys : List ℕ) × Prepared keys (now ordered) (now index) (now opposite) (now order) × (length (now counts) ≡ length keys) × (length (now labels) ≡ length (trianglesOf keys)))
-        × All Held (now numbers) × ((ms : List Member) × (rest : List ℤ) × PolygonsAt (now numbers) first ms rest) × (length (now sets) ≡ length (now labels)) × (now sets ≡ replicate (length (now sets)) 0) ⌝ }
-    ensures { λ r. ⌜ OneEach r (length (now (sets .entry))) × ((keys : List ℕ) (ms : List Member) (rest : List ℤ) → Prepared keys (now (ordered .entry)) (now (index .entry)) (now (opposite .entry)) (now (order .entry))
-        → length (now (counts .entry)) ≡ length keys → length (now (labels .entry)) ≡ length (trianglesOf keys) → PolygonsAt (now (numbers .entry)) first ms rest → ownedAs r (now (sets .exit)) ≡ heldSets (trianglesOf keys) ms) ⌝ }
+    requires { ⌜ ((keys : List ℕ) × Prepared keys (now ordered) (now index) (now opposite) × WorkLists keys (now counts) (now touched) (now labels) (now group))
+        × All Held (now numbers) × ((ms : List Member) × (rest : List ℤ) × PolygonsAt (now numbers) first ms rest) × (length (now sets) ≡ length (now labels)) × (now sets ≡ replicate (length (now sets)) 0)
+        × EdgeRoom (now numbers) (now from) × EdgeRoom (now numbers) (now to) ⌝ }
+    ensures { λ r. ⌜ OneEach r (length (now (sets .entry))) × ((keys : List ℕ) (ms : List Member) (rest : List ℤ) → Prepared keys (now (ordered .entry)) (now (index .entry)) (now (opposite .entry))
+        → WorkLists keys (now (counts .entry)) (now (touched .entry)) (now (labels .entry)) (now (group .entry)) → PolygonsAt (now (numbers .entry)) first ms rest → ownedAs r (now (sets .exit)) ≡ heldSets (trianglesOf keys) ms) ⌝ }
 {
-    let mut from = [0u64; 4096];
-    let mut to = [0u64; 4096];
     let n = numbers[first] - OFFSET;
     let mut at = first + 1;
     let mut k: u32 = 0;
@@ -94,11 +98,12 @@ fn polygons(
             ordered,
             index,
             opposite,
-            order,
-            &mut from,
-            &mut to,
+            from,
+            to,
             counts,
+            touched,
             labels,
+            group,
         );
         let judging = t.judging;
         match judging {
@@ -128,26 +133,27 @@ fn clear(sets: &mut [u64])
     }
 }
 
-// The polygons of a table that passes, judged in an order found once, in work lists of the right lengths.
+// The polygons of a table that passes, judged in work lists of the right lengths.
 fn judge_in(
     numbers: &[u32],
     ordered: &[u64],
     index: &[u64],
     opposite: &[usize],
+    from: &mut [u64],
+    to: &mut [u64],
     counts: &mut [u32],
+    touched: &mut [usize],
     labels: &mut [bool],
-    order: &mut [usize],
+    group: &mut [usize],
     sets: &mut [u64],
 ) -> Owning
-    requires { ⌜ ((keys : List ℕ) × Indexed keys (now ordered) (now index) (now opposite) × RuleA (trianglesOf keys) × (length (now counts) ≡ length keys) × (length (now labels) ≡ length (trianglesOf keys))
-        × (length (now order) ≡ length (trianglesOf keys)) × (length (now sets) ≡ length (trianglesOf keys)) × (length (trianglesOf keys) ≤ 1024))
-        × ((n : Sheet) × SheetHeld members n (now numbers) × (length (n .table) ≡ length (now sets))) ⌝ }
-    ensures { λ r. ⌜ OneEach r (length (now (sets .entry))) × ((keys : List ℕ) (n : Sheet) → Indexed keys (now (ordered .entry)) (now (index .entry)) (now (opposite .entry)) → RuleA (trianglesOf keys) → SheetHeld members n (now (numbers .entry)) → trianglesOf keys ≡ n .table
-        → length (now (counts .entry)) ≡ length keys → length (now (labels .entry)) ≡ length (trianglesOf keys) → length (now (order .entry)) ≡ length (trianglesOf keys) → length (now (sets .entry)) ≡ length (trianglesOf keys)
+    requires { ⌜ ((keys : List ℕ) × Prepared keys (now ordered) (now index) (now opposite) × WorkLists keys (now counts) (now touched) (now labels) (now group) × (length (now sets) ≡ length (trianglesOf keys)))
+        × ((n : Sheet) × SheetHeld members n (now numbers) × (length (n .table) ≡ length (now sets))) × EdgeRoom (now numbers) (now from) × EdgeRoom (now numbers) (now to) ⌝ }
+    ensures { λ r. ⌜ OneEach r (length (now (sets .entry))) × ((keys : List ℕ) (n : Sheet) → Prepared keys (now (ordered .entry)) (now (index .entry)) (now (opposite .entry)) → SheetHeld members n (now (numbers .entry)) → trianglesOf keys ≡ n .table
+        → WorkLists keys (now (counts .entry)) (now (touched .entry)) (now (labels .entry)) (now (group .entry)) → length (now (sets .entry)) ≡ length (trianglesOf keys)
         → ownedAs r (now (sets .exit)) ≡ heldSets (n .table) (n .polygons)) ⌝ }
 {
     let t = sets.len();
-    table_order::order(opposite, order);
     clear(sets);
     polygons(
         numbers,
@@ -155,9 +161,82 @@ fn judge_in(
         ordered,
         index,
         opposite,
-        order,
+        from,
+        to,
         counts,
+        touched,
         labels,
+        group,
+        sets,
+    )
+}
+
+// The polygons of a table of at most 64 triangles that passes, in a sheet of at most 1,024 numbers, judged in short work lists.
+fn judge_few(
+    numbers: &[u32],
+    ordered: &[u64],
+    index: &[u64],
+    opposite: &[usize],
+    sets: &mut [u64],
+) -> Owning
+    requires { ⌜ ((keys : List ℕ) × Indexed keys (now ordered) (now index) (now opposite) × RuleA (trianglesOf keys) × (length (now sets) ≡ length (trianglesOf keys)) × (length (trianglesOf keys) ≤ 64))
+        × ((n : Sheet) × SheetHeld members n (now numbers) × (length (n .table) ≡ length (now sets))) × (length (now numbers) ≤ 1024) ⌝ }
+    ensures { λ r. ⌜ OneEach r (length (now (sets .entry))) × ((keys : List ℕ) (n : Sheet) → Indexed keys (now (ordered .entry)) (now (index .entry)) (now (opposite .entry)) → RuleA (trianglesOf keys) → SheetHeld members n (now (numbers .entry)) → trianglesOf keys ≡ n .table
+        → length (now (sets .entry)) ≡ length (trianglesOf keys) → ownedAs r (now (sets .exit)) ≡ heldSets (n .table) (n .polygons)) ⌝ }
+{
+    let t = sets.len();
+    let mut from = [0u64; 512];
+    let mut to = [0u64; 512];
+    let mut counts = [0u32; 192];
+    let mut touched = [0usize; 192];
+    let mut labels = [false; 64];
+    let mut group = [0usize; 64];
+    judge_in(
+        numbers,
+        ordered,
+        index,
+        opposite,
+        &mut from,
+        &mut to,
+        &mut counts[..3 * t],
+        &mut touched[..3 * t],
+        &mut labels[..t],
+        &mut group[..t],
+        sets,
+    )
+}
+
+// The polygons of any table that passes, judged in long work lists.
+fn judge_many(
+    numbers: &[u32],
+    ordered: &[u64],
+    index: &[u64],
+    opposite: &[usize],
+    sets: &mut [u64],
+) -> Owning
+    requires { ⌜ ((keys : List ℕ) × Indexed keys (now ordered) (now index) (now opposite) × RuleA (trianglesOf keys) × (length (now sets) ≡ length (trianglesOf keys)) × (length (trianglesOf keys) ≤ 1024))
+        × ((n : Sheet) × SheetHeld members n (now numbers) × (length (n .table) ≡ length (now sets))) ⌝ }
+    ensures { λ r. ⌜ OneEach r (length (now (sets .entry))) × ((keys : List ℕ) (n : Sheet) → Indexed keys (now (ordered .entry)) (now (index .entry)) (now (opposite .entry)) → RuleA (trianglesOf keys) → SheetHeld members n (now (numbers .entry)) → trianglesOf keys ≡ n .table
+        → length (now (sets .entry)) ≡ length (trianglesOf keys) → ownedAs r (now (sets .exit)) ≡ heldSets (n .table) (n .polygons)) ⌝ }
+{
+    let t = sets.len();
+    let mut from = [0u64; 4096];
+    let mut to = [0u64; 4096];
+    let mut counts = [0u32; 3072];
+    let mut touched = [0usize; 3072];
+    let mut labels = [false; 1024];
+    let mut group = [0usize; 1024];
+    judge_in(
+        numbers,
+        ordered,
+        index,
+        opposite,
+        &mut from,
+        &mut to,
+        &mut counts[..3 * t],
+        &mut touched[..3 * t],
+        &mut labels[..t],
+        &mut group[..t],
         sets,
     )
 }
@@ -175,18 +254,10 @@ pub fn judge_all(
     ensures { λ r. ⌜ OneEach r (length (now (sets .entry))) × ((keys : List ℕ) (n : Sheet) → Indexed keys (now (ordered .entry)) (now (index .entry)) (now (opposite .entry)) → RuleA (trianglesOf keys) → SheetHeld members n (now (numbers .entry)) → trianglesOf keys ≡ n .table
         → length (now (sets .entry)) ≡ length (trianglesOf keys) → ownedAs r (now (sets .exit)) ≡ heldSets (n .table) (n .polygons)) ⌝ }
 {
-    let t = sets.len();
-    let mut counts = [0u32; 3072];
-    let mut labels = [false; 1024];
-    let mut order = [0usize; 1024];
-    judge_in(
-        numbers,
-        ordered,
-        index,
-        opposite,
-        &mut counts[..3 * t],
-        &mut labels[..t],
-        &mut order[..t],
-        sets,
-    )
+    if sets.len() <= 64 {
+        if numbers.len() <= 1024 {
+            return judge_few(numbers, ordered, index, opposite, sets);
+        }
+    }
+    judge_many(numbers, ordered, index, opposite, sets)
 }

@@ -1,12 +1,12 @@
 -- What the code that judges one polygon finds is what the judging answers. The idea: a set carries the polygon exactly if it has the boundary of the pieces, which
--- the counts tell; forced labels are every carrier's labels. Assumes nothing.
+-- the counts tell; where no side is touched that is the empty set. Assumes nothing.
 use mathlib.Core.Path.{_≡_, refl, sym, _∙_, ap, subst}
 use mathlib.Core.Logic.{_↔_}
-use mathlib.Core.Bool.{Bool, true, false}
+use mathlib.Core.Bool.{Bool, false}
 use mathlib.Core.List.{List}
-use Prim.Native.Nat.{ℕ}
+use Prim.Native.Nat.{ℕ, _<_}
 use native.Mathlib.Omega.{arith}
-use Rattle.whole.specs.Sums.{any}
+use lib.ListN.{length, getD, replicate, length-replicate}
 use Rattle.plane.specs.Points.{Triangle}
 use Rattle.plane.specs.Boundaries.{SameBoundary, sidesOf}
 use Rattle.plane.specs.Members.{Member, memberEdges}
@@ -14,18 +14,33 @@ use Rattle.plane.specs.Keys.{pairs}
 use Rattle.table.specs.Table.{RuleA, RuleB}
 use Rattle.table.specs.Sets.{SetOf, chosen}
 use Rattle.table.proofs.Sets.{zero-empty}
-use Rattle.table.specs.Sides.{trianglesOf, Shares}
-use Rattle.table_count.specs.Counting.{piecesOf, Tallied, Settled, Stray}
+use Rattle.table.specs.Sides.{trianglesOf, evenly, Shares}
+use Rattle.table.proofs.Shares.{length-triangles}
+use Rattle.table_count.specs.Counting.{piecesOf, Edged, Tallied, Settled, Stray}
 use Rattle.owners_judge.specs.declared.Judging.{Judging}
 use Rattle.owners_judge.specs.declared.Judging.the-variants.{Carried as Yes, NotCarried as No, NoGround as Bare}
 use Rattle.owners.specs.Judging.{Carries, Groundless, carried, notCarried, noGround, code, judge, AreaOfOwnership}
 use Rattle.owners_judge.specs.Preparing.{Prepared}
 use Rattle.owners_judge.specs.Judged.{judgedOf}
 use Rattle.owners.proofs.Carried.{answered, answers, not-carried, no-ground, empty-groundless}
-use Rattle.owners_judge.proofs.Labels.{none-chosen, some-not}
-use Rattle.table_labels.proofs.Compared.{pieces-are, stray-refuses, shares-from, shares-to}
+use Rattle.owners_judge.proofs.Labels.{all-unset, none-chosen, unset-shares}
+use Rattle.table_labels.proofs.Compared.{pieces-are, sided, tallied-room, turned, stray-refuses, shares-from, shares-to}
+use Rattle.table_spread.specs.Spreading.{Spreadable}
 
-module _ (keys ordered index opposite order : List ℕ) (prepared : Prepared keys ordered index opposite order) (from to : List ℕ) (m : Member) (is : pairs from to ≡ memberEdges m) where
+-- Labels can spread from the sides with the counts of a polygon.
+pub spreadable : (keys ordered index opposite : List ℕ) → Prepared keys ordered index opposite → (from to counts : List ℕ) → Edged from to
+    → Tallied (sidesOf (trianglesOf keys)) (piecesOf ordered from to) counts → (n : ℕ) → n ≡ length (trianglesOf keys) → length counts ≡ length keys → Spreadable opposite counts n
+spreadable keys ordered index opposite prepared from to counts edged tallied n e q = record {
+  keys = keys;
+  corners = omega (arith, prepared .indexed .three, length-triangles keys (prepared .indexed .n) (prepared .indexed .three));
+  area = prepared .areas;
+  sides-once = prepared .indexed .once;
+  found = prepared .indexed .opposite-is;
+  sided = sided keys ordered index opposite (prepared .indexed) (piecesOf ordered from to) counts n q e (tallied-room (sidesOf (trianglesOf keys)) ordered from to counts edged tallied);
+  turned = turned keys ordered index opposite (prepared .indexed) (piecesOf ordered from to) counts tallied;
+}
+
+module _ (keys ordered index opposite : List ℕ) (prepared : Prepared keys ordered index opposite) (from to : List ℕ) (m : Member) (is : pairs from to ≡ memberEdges m) where
   abbrev table : List Triangle
   table = trianglesOf keys
 
@@ -40,22 +55,28 @@ module _ (keys ordered index opposite order : List ℕ) (prepared : Prepared key
   judge-stray stray = none (λ s l. stray-refuses keys ordered index opposite (prepared .indexed) (piecesOf ordered from to) s l stray)
 
   module _ (counts : List ℕ) (tallied : Tallied (sidesOf table) (piecesOf ordered from to) counts) where
-    pub judge-unforced : ((s : List Bool) → SetOf table s → Shares opposite counts s → ⊥) → judge table m ≡ notCarried
-    judge-unforced h = none (λ s l c. h s l (shares-from keys ordered index opposite (prepared .indexed) (piecesOf ordered from to) s l counts tallied c))
+    -- No set has these counts for its boundary.
+    pub judge-none : ((s : List Bool) → SetOf table s → Shares opposite counts s → ⊥) → judge table m ≡ notCarried
+    judge-none h = none (λ s l c. h s l (shares-from keys ordered index opposite (prepared .indexed) (piecesOf ordered from to) s l counts tallied c))
 
-    pub judge-other : (labels : List Bool) → ((s : List Bool) → SetOf table s → Shares opposite counts s → s ≡ labels) → (Shares opposite counts labels → ⊥) → judge table m ≡ notCarried
-    judge-other labels h n = judge-unforced (λ s l c. n (subst (Shares opposite counts) (h s l c) c))
+    module _ (settled : Settled (sidesOf table) (piecesOf ordered from to) (piecesOf ordered from to)) where
+      carries : (labels : List Bool) → SetOf table labels → Shares opposite counts labels → Carries table labels m
+      carries labels l h = subst (λ T. T) (sym (carrying labels)) (shares-to keys ordered index opposite (prepared .indexed) (piecesOf ordered from to) labels l counts tallied settled h)
 
-    module _ (labels : List Bool) (l : SetOf table labels) (settled : Settled (sidesOf table) (piecesOf ordered from to) (piecesOf ordered from to)) (h : Shares opposite counts labels) where
-      carries : Carries table labels m
-      carries = subst (λ T. T) (sym (carrying labels)) (shares-to keys ordered index opposite (prepared .indexed) (piecesOf ordered from to) labels l counts tallied settled h)
+      -- A member that touches no side is carried by no triangle, and has no ground;
+      pub judge-bare : ((k : ℕ) → k < length opposite → getD counts k 0 ≡ evenly) → judge table m ≡ noGround
+      judge-bare e =
+          let s : List Bool = replicate (length table) false in
+          let u = all-unset (length table) in
+          no-ground table m (prepared .areas) (prepared .indexed .once) .1
+          (empty-groundless table m s (none-chosen table s u) (carries s (length-replicate (length table) false) (λ k h. unset-shares opposite counts s u k .1 (e k h))))
 
-      -- Labels of which none is set are those of a member without ground; a member with a label has ground, since a boundary that is zero is that of no triangles.
-      pub judge-empty : any (λ b. b) labels ≡ false → judge table m ≡ noGround
-      judge-empty e = no-ground table m (prepared .areas) (prepared .indexed .once) .1 (empty-groundless table m labels (none-chosen table labels e) carries)
-
-      pub judge-carried : any (λ b. b) labels ≡ true → judge table m ≡ carried labels
-      judge-carried e = answers table m (prepared .areas) (prepared .indexed .once) labels l carries (λ g. some-not labels e (zero-empty table (prepared .areas) (prepared .indexed .once) labels l (λ d. carries d ∙ g d)))
+      -- one that touches a side and is carried has ground, since a boundary that is zero is that of no triangles.
+      pub judge-carried : (labels : List Bool) → SetOf table labels → Shares opposite counts labels → (k : ℕ) → k < length opposite → (getD counts k 0 ≡ evenly → ⊥) → judge table m ≡ carried labels
+      judge-carried labels l h k p n =
+          let c = carries labels l h in
+          answers table m (prepared .areas) (prepared .indexed .once) labels l c
+          (λ g. n (unset-shares opposite counts labels (zero-empty table (prepared .areas) (prepared .indexed .once) labels l (λ d. c d ∙ g d)) k .0 (h k p)))
 
 -- ---- demand 3 for the code
 -- What the judging of one polygon says of its answer: 20 exactly if no set of triangles has the member's boundary, 21 exactly if that is zero everywhere; a carried member's labels are

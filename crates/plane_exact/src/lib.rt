@@ -44,7 +44,7 @@ fn products(a: i64, b: i64, c: i64, d: i64) -> i64
 }
 
 // The double area of the triangle (a, b, c).
-fn double_area(a: Corner, b: Corner, c: Corner) -> i64
+pub fn double_area(a: Corner, b: Corner, c: Corner) -> i64
     requires { ⌜ InRange a × InRange b × InRange c ⌝ }
     ensures { λ r. ⌜ r ≡ turn (point a) (point b) (point c) ⌝ }
 {

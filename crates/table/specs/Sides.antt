@@ -3,10 +3,10 @@ use mathlib.Core.Path.{_≡_}
 use mathlib.Core.Bool.{Bool, false}
 use mathlib.Core.List.{List, [], _∷_}
 use mathlib.Core.Option.{Option, none, some}
-use Prim.Native.Nat.{ℕ, zero, suc, _-_, _*_, _/_, _%_, _<_}
+use Prim.Native.Nat.{ℕ, zero, suc, _-_, _/_, _%_, _<_}
 use lib.IntN.{ℤ, pos, _-ℤ_}
 use lib.ListN.{length, getD}
-use Rattle.whole.specs.Sums.{All, Among, bit}
+use Rattle.whole.specs.Sums.{Among, bit}
 use Rattle.plane.specs.Boundaries.{boundary, sidesOf}
 use Rattle.plane.specs.Points.{Edge, Triangle, flip, sameEdge}
 use Rattle.plane.specs.Keys.{pointAt, pair}
@@ -51,16 +51,13 @@ once = 2_147_483_649
 abbrev pub netOf : ℕ → ℤ
 netOf n = pos n -ℤ pos evenly
 
--- The counts at all sides are those of the set's boundary.
-abbrev pub Shares : List ℕ → List ℕ → List Bool → Type 0
-Shares opposite counts s = (k : ℕ) → k < length opposite → netOf (getD counts k 0) ≡ share opposite s k
+-- The count at a side is that of the set's boundary,
+abbrev pub SharesAt : List ℕ → List ℕ → List Bool → ℕ → Type 0
+SharesAt opposite counts s k = netOf (getD counts k 0) ≡ share opposite s k
 
--- An order in which labels are forced: a list of sides, each without a reverse or with the triangle across it met earlier; each triangle
--- is met by one of its sides.
-pub record Reaches (opposite order : List ℕ) : Type 0 where
-  pub sides : All (λ k. k < length opposite) order
-  pub earlier : (i o : ℕ) → i < length order → getD opposite (getD order i 0) 0 ≡ suc o → (j : ℕ) × (j < i) × (getD order j 0 / 3 ≡ o / 3)
-  pub all : (t : ℕ) → 3 * t < length opposite → (i : ℕ) × (i < length order) × (getD order i 0 / 3 ≡ t)
+-- and so are the counts at all sides.
+abbrev pub Shares : List ℕ → List ℕ → List Bool → Type 0
+Shares opposite counts s = (k : ℕ) → k < length opposite → SharesAt opposite counts s k
 
 -- The item of a fault found: the triangle's number; 0 where there is none.
 abbrev pub itemOf : Option ℕ → ℕ

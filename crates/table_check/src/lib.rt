@@ -158,7 +158,7 @@ fn compared(
     requires { ⌜ Indexed (now keys) (now ordered) (now index) (now opposite) × Edged (now from) (now to) × (length (now counts) ≡ length (now keys)) × (length (now labels) ≡ length (trianglesOf (now keys))) × All (λ b. b ≡ true) (now labels) ⌝ }
     ensures { λ r. ⌜ r ≡ agree (sidesOf (trianglesOf (now (keys .entry)))) (allPieces (corners (trianglesOf (now (keys .entry)))) (pairs (now (from .entry)) (now (to .entry)))) ⌝ }
 {
-    if !table_count::tally(ordered, index, from, to, counts) {
+    if !table_tally::tally(ordered, index, from, to, counts) {
         return false;
     }
     table_labels::agree(opposite, counts, labels)

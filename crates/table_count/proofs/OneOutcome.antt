@@ -4,11 +4,11 @@ use mathlib.Core.Path.{_≡_, refl, sym, _∙_, ap}
 use mathlib.Core.Logic.{_⊎_, ⊎-elim}
 use mathlib.Core.Bool.{Bool, true, false, false≢true}
 use mathlib.Core.List.{List}
-use Prim.Native.Nat.{ℕ, _≤_, _<_}
+use Prim.Native.Nat.{ℕ, _≤_}
 use native.Mathlib.Omega.{arith}
 use native.Mathlib.Decide.{decLe}
-use lib.IntN.{ℤ, pos, _+ℤ_}
-use lib.ListN.{length, getD}
+use lib.IntN.{pos, _+ℤ_}
+use lib.ListN.{getD}
 use lib.Seq.{ext-getD}
 use Rattle.whole.specs.Tests.{Told}
 use Rattle.whole.specs.Sums.{Among, count}
@@ -19,8 +19,8 @@ use Rattle.plane.specs.Points.{Edge, flip, sameEdge}
 use Rattle.plane.specs.Boundaries.{boundary}
 use Rattle.plane.proofs.Points.{sameEdge-eq, sameEdge-refl}
 use Rattle.table.specs.Sides.{netOf}
-use Rattle.table_count.specs.Counting.{sideOf, Tallied, Settled, Stray}
-use Rattle.table_count.proofs.Passing.{boundary-zero, zero-boundary}
+use Rattle.table_count.specs.Counting.{Tallied, Settled, Stray}
+use Rattle.table_count.proofs.Pieces.{boundary-zero, zero-boundary}
 
 module _ (sides p : List Edge) where
   -- Pieces that settle have no stray one.

@@ -1,3 +1,4 @@
 -- The laws of laying down and of looking up what was laid down.
 pub mod Stored
 pub mod Indexing
+pub mod Noting

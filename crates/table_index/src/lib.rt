@@ -1,15 +1,20 @@
-// The sides of a table made ready to be looked up: the code of each, the codes in order, the side across each side, and the first side of an earlier triangle (rule B).
+// The sides of a table made ready to be looked up: the code of each, the sides in chains, the side across each side, and the first side of an earlier triangle (rule B).
 ghost use mathlib.Core.Path.{_≡_};
-ghost use mathlib.Core.List.{[], _++_};
-ghost use Prim.Native.Nat.{ℕ, _*_, _^_, _≤_, _<_};
-ghost use lib.ListN.{length, drop};
+ghost use mathlib.Core.List.{[]};
+ghost use Prim.Native.Nat.{ℕ, _*_, _≤_, _<_};
+ghost use lib.ListN.{length, getD};
+ghost use Rattle.whole.specs.Tests.{Told};
 ghost use Rattle.whole.specs.Sums.{All};
 ghost use Rattle.plane.specs.Keys.{Key};
 ghost use Rattle.table.specs.Table.{RuleB, firstFault, repeats};
-ghost use Rattle.table.specs.Sides.{trianglesOf, tailsOf, itemOf, FirstRepeat};
+ghost use Rattle.table.specs.Sides.{trianglesOf, tailsOf, itemOf};
 ghost use Rattle.whole_order.specs.Ascending.{Ascending, ascending};
-ghost use Rattle.table_sides.specs.Codes.{codesOf, indexOf, turnedIn};
+ghost use Rattle.table_sides.specs.Codes.{codesOf};
+ghost use Rattle.table_sides.specs.Chains.{clearIn};
+ghost use Rattle.table_chains.specs.Linking.{Within};
+ghost use Rattle.table_count.specs.Counting.{ClearOf};
 ghost use Rattle.table_count.specs.Indexed.{Indexed};
+ghost use Rattle.table_index.specs.Noting.{Noted, NotedTo};
 
 // Lays down the code of each side, from its corner and the corner at which it ends.
 fn codes(corners: &[u64], keys: &[u64], codes: &mut [u64])
@@ -28,55 +33,44 @@ fn codes(corners: &[u64], keys: &[u64], codes: &mut [u64])
     }
 }
 
-// Lays down the codes with their numbers in ascending order.
-fn index(codes: &[u64], index: &mut [u64]) -> usize
-    requires { ⌜ All (λ c. c < 2 ^ 25) (now codes) × (length (now codes) ≤ 3072) × (length (now codes) ≤ length (now index)) ⌝ }
-    ensures { λ r. ⌜ (r ≡ length (now (codes .entry))) × (now (index .exit) ≡ indexOf (now (codes .entry)) ++ drop r (now (index .entry))) ⌝ }
+// No corner is strictly between those with the places a and b, of which a is the lower.
+fn is_clear(corners: &[u64], a: usize, b: usize) -> bool
+    requires { ⌜ Ascending (now corners) × All Key (now corners) × (a < b) × (b < length (now corners)) ⌝ }
+    ensures { λ r. ⌜ Told r (ClearOf (now (corners .entry)) (getD (now (corners .entry)) a 0) (getD (now (corners .entry)) b 0)) (ClearOf (now (corners .entry)) (getD (now (corners .entry)) a 0) (getD (now (corners .entry)) b 0) → ⊥) ⌝ }
 {
-    let mut n: usize = 0;
-    let mut i: usize = 0;
-    while i < codes.len() {
-        n = whole_order::insert(index, n, codes[i] * 4096 + i as u64);
-        i += 1;
-    }
-    n
+    corners.len() <= table_count::next_stop(corners, a, corners[a], corners[b])
 }
 
-// Lays down for each side the number of the side that is its reverse.
-fn opposites(index: &[u64], codes: &[u64], opposite: &mut [usize])
-    requires { ⌜ All (λ c. c < 2 ^ 24) (now codes) × (length (now codes) ≤ 3072) × (now index ≡ indexOf (now codes)) × (length (now opposite) ≡ length (now codes)) ⌝ }
-    ensures { λ _. ⌜ now (opposite .exit) ≡ turnedIn (now (codes .entry)) ⌝ }
+// What is added to the number of a side with this code in the chains, to note that no corner is inside it. That is looked at for one of a side and its reverse.
+fn note(corners: &[u64], code: u64, opposite: usize) -> u64
+    requires { ⌜ Ascending (now corners) × All Key (now corners) × Within (length (now corners)) code ⌝ }
+    ensures { λ r. ⌜ Noted (now (corners .entry)) code r ⌝ }
 {
-    let mut i: usize = 0;
-    while i < codes.len() {
-        opposite[i] = table_sides::side_of(index, codes[i] % 4096 * 4096 + codes[i] / 4096);
-        i += 1;
+    let a = (code / 4096) as usize;
+    let b = (code % 4096) as usize;
+    if a < b && is_clear(corners, a, b) {
+        return 281_474_976_710_656;
     }
-}
-
-// The number, counted from 1, of the first triangle that has a side of an earlier one; 0 where none has. Each side is given by a code, by triangle and then ab, bc, ca;
-// equal codes are the same ordered pair.
-fn repeated_side(codes: &[u64]) -> usize
-    ensures { λ r. ⌜ FirstRepeat (now (codes .entry)) r ⌝ }
-{
-    let mut k: usize = 0;
-    'search: while k < codes.len() {
-        let mut j: usize = 0;
-        while j < k - k % 3 {
-            if codes[j] == codes[k] {
-                break 'search;
-            }
-            j += 1;
-        }
-        k += 1;
-    }
-    if k < codes.len() {
-        return k / 3 + 1;
+    if opposite == 0 && b < a && is_clear(corners, b, a) {
+        return 281_474_976_710_656;
     }
     0
 }
 
-// Lays down the codes of the table's sides, the codes in order, and the side across each side.
+// Notes of the sides with these codes that no corner is inside them.
+fn notes(corners: &[u64], codes: &[u64], opposite: &[usize], index: &mut [u64])
+    requires { ⌜ Ascending (now corners) × All Key (now corners) × All (Within (length (now corners))) (now codes) × (length (now opposite) ≡ length (now codes)) × (length (now index) ≡ length (now codes))
+        × ((i : ℕ) → i < length (now codes) → clearIn (getD (now index) i 0) ≡ 0) ⌝ }
+    ensures { λ _. ⌜ NotedTo (now (corners .entry)) (now (codes .entry)) (now (index .entry)) (now (index .exit)) (length (now (codes .entry))) ⌝ }
+{
+    let mut k: usize = 0;
+    while k < codes.len() {
+        index[k] += note(corners, codes[k], opposite[k]);
+        k += 1;
+    }
+}
+
+// Lays down the codes of the table's sides, hangs the sides in chains, and lays down the side across each side.
 fn lay_sides(
     keys: &[u64],
     ordered: &[u64],
@@ -89,9 +83,36 @@ fn lay_sides(
     ensures { λ r. ⌜ (r ≡ itemOf (firstFault repeats [] (trianglesOf (now (keys .entry))))) × (RuleB (trianglesOf (now (keys .entry))) → Indexed (now (keys .entry)) (now (ordered .entry)) (now (index .exit)) (now (opposite .exit))) ⌝ }
 {
     self::codes(ordered, keys, codes);
-    self::index(codes, index);
-    opposites(index, codes, opposite);
-    repeated_side(codes)
+    table_chains::unlinked(codes, index);
+    let r = table_chains::repeated_side(codes, index);
+    if r != 0 {
+        return r;
+    }
+    table_chains::opposites(index, codes, opposite);
+    notes(ordered, codes, opposite, index);
+    0
+}
+
+// Makes at most 192 sides ready to be looked up, their codes laid down in a short work list.
+fn index_few(keys: &[u64], ordered: &[u64], index: &mut [u64], opposite: &mut [usize]) -> usize
+    requires { ⌜ All Key (now keys) × ((n : ℕ) × (length (now keys) ≡ 3 * n)) × (length (now keys) ≤ 192) × (now ordered ≡ ascending (now keys))
+        × (length (now index) ≡ length (now keys)) × (length (now opposite) ≡ length (now keys)) ⌝ }
+    ensures { λ r. ⌜ (r ≡ itemOf (firstFault repeats [] (trianglesOf (now (keys .entry))))) × (RuleB (trianglesOf (now (keys .entry))) → Indexed (now (keys .entry)) (now (ordered .entry)) (now (index .exit)) (now (opposite .exit))) ⌝ }
+{
+    let n = keys.len();
+    let mut codes = [0u64; 192];
+    lay_sides(keys, ordered, &mut codes[..n], index, opposite)
+}
+
+// Makes the sides of any table ready to be looked up, their codes laid down in a long work list.
+fn index_many(keys: &[u64], ordered: &[u64], index: &mut [u64], opposite: &mut [usize]) -> usize
+    requires { ⌜ All Key (now keys) × ((n : ℕ) × (length (now keys) ≡ 3 * n)) × (length (now keys) ≤ 3072) × (now ordered ≡ ascending (now keys))
+        × (length (now index) ≡ length (now keys)) × (length (now opposite) ≡ length (now keys)) ⌝ }
+    ensures { λ r. ⌜ (r ≡ itemOf (firstFault repeats [] (trianglesOf (now (keys .entry))))) × (RuleB (trianglesOf (now (keys .entry))) → Indexed (now (keys .entry)) (now (ordered .entry)) (now (index .exit)) (now (opposite .exit))) ⌝ }
+{
+    let n = keys.len();
+    let mut codes = [0u64; 3072];
+    lay_sides(keys, ordered, &mut codes[..n], index, opposite)
 }
 
 // Makes the table's sides ready to be looked up, and lays down the side across each side. Answers the number of the first triangle with a
@@ -106,7 +127,8 @@ pub fn index_sides(
         × (length (now index) ≡ length (now keys)) × (length (now opposite) ≡ length (now keys)) ⌝ }
     ensures { λ r. ⌜ (r ≡ itemOf (firstFault repeats [] (trianglesOf (now (keys .entry))))) × (RuleB (trianglesOf (now (keys .entry))) → Indexed (now (keys .entry)) (now (ordered .entry)) (now (index .exit)) (now (opposite .exit))) ⌝ }
 {
-    let n = keys.len();
-    let mut codes = [0u64; 3072];
-    lay_sides(keys, ordered, &mut codes[..n], index, opposite)
+    if keys.len() <= 192 {
+        return index_few(keys, ordered, index, opposite);
+    }
+    index_many(keys, ordered, index, opposite)
 }

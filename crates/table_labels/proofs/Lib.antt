@@ -1,3 +1,2 @@
--- The laws of labels.
-pub mod Forcing
+-- The laws of the comparison of labels with counts.
 pub mod Compared

@@ -1,2 +1,2 @@
--- Labels forced from side to side.
+-- What labels of triangles are compared with.
 pub mod Labels

@@ -1,12 +1,11 @@
-// Labels of triangles: forced from side to side by the counts at the sides, and the last comparison with the counts.
+// Labels of triangles compared with the counts at sides: at all of them, or at some.
 ghost use mathlib.Core.Path.{_≡_};
-ghost use mathlib.Core.Option.{none, some};
 ghost use Prim.Native.Nat.{ℕ, suc, _/_, _≤_, _<_};
 ghost use lib.ListN.{length};
 ghost use Rattle.whole.specs.Tests.{Told};
 ghost use Rattle.whole.specs.Sums.{All, bit};
-ghost use Rattle.table.specs.Sides.{across, Shares};
-ghost use Rattle.table_labels.specs.Labels.{Sided, forcing};
+ghost use Rattle.table.specs.Sides.{across, SharesAt, Shares};
+ghost use Rattle.table_labels.specs.Labels.{Sided};
 
 // 1 for a label that is set, else 0.
 fn one(label: bool) -> u32
@@ -29,25 +28,14 @@ fn beyond(o: usize, labels: &[bool]) -> u32
     one(labels[(o - 1) / 3])
 }
 
-// Labels each triangle in the order, by the count at a side and the label across it; false where that is no label.
-pub fn force(opposite: &[usize], order: &[usize], counts: &[u32], labels: &mut [bool]) -> bool
-    requires { ⌜ Sided (now opposite) (now counts) (length (now labels)) × All (λ k. k < length (now opposite)) (now order) ⌝ }
-    ensures { λ r. ⌜ (length (now (labels .exit)) ≡ length (now (labels .entry))) × Told r
-        (forcing (now (opposite .entry)) (now (counts .entry)) (now (order .entry)) (now (labels .entry)) ≡ some (now (labels .exit)))
-        (forcing (now (opposite .entry)) (now (counts .entry)) (now (order .entry)) (now (labels .entry)) ≡ none) ⌝ }
+// The count at side k is that of the boundary of the labelled set.
+fn agrees(opposite: &[usize], counts: &[u32], labels: &[bool], k: usize) -> bool
+    requires { ⌜ Sided (now opposite) (now counts) (length (now labels)) × (k < length (now opposite)) ⌝ }
+    ensures { λ r. ⌜ Told r (SharesAt (now (opposite .entry)) (now (counts .entry)) (now (labels .entry)) k) (SharesAt (now (opposite .entry)) (now (counts .entry)) (now (labels .entry)) k → ⊥) ⌝ }
 {
-    let mut i: usize = 0;
-    while i < order.len() {
-        let k = order[i];
-        let x = counts[k] + beyond(opposite[k], labels);
-        if x < table::EVEN {
-            return false;
-        }
-        if table::ONCE < x {
-            return false;
-        }
-        labels[k / 3] = x == table::ONCE;
-        i += 1;
+    let own = table::EVEN + one(labels[k / 3]);
+    if counts[k] + beyond(opposite[k], labels) != own {
+        return false;
     }
     true
 }
@@ -59,11 +47,26 @@ pub fn agree(opposite: &[usize], counts: &[u32], labels: &[bool]) -> bool
 {
     let mut k: usize = 0;
     while k < counts.len() {
-        let own = table::EVEN + one(labels[k / 3]);
-        if counts[k] + beyond(opposite[k], labels) != own {
+        if !agrees(opposite, counts, labels, k) {
             return false;
         }
         k += 1;
+    }
+    true
+}
+
+// The counts at these sides are those of the boundary of the labelled set.
+pub fn agree_at(opposite: &[usize], counts: &[u32], labels: &[bool], sides: &[usize]) -> bool
+    requires { ⌜ Sided (now opposite) (now counts) (length (now labels)) × All (λ k. k < length (now opposite)) (now sides) ⌝ }
+    ensures { λ r. ⌜ Told r (All (SharesAt (now (opposite .entry)) (now (counts .entry)) (now (labels .entry))) (now (sides .entry)))
+        (All (SharesAt (now (opposite .entry)) (now (counts .entry)) (now (labels .entry))) (now (sides .entry)) → ⊥) ⌝ }
+{
+    let mut i: usize = 0;
+    while i < sides.len() {
+        if !agrees(opposite, counts, labels, sides[i]) {
+            return false;
+        }
+        i += 1;
     }
     true
 }

@@ -1,3 +1,3 @@
--- The laws of codes.
-pub mod Numbered
+-- The laws of codes and of chains.
 pub mod Looked
+pub mod Chains

@@ -3,7 +3,7 @@ use mathlib.Core.Bool.{cond}
 use mathlib.Core.List.{List, [], _∷_, map}
 use Prim.Native.Nat.{ℕ, suc, _+_, _*_, _/_, _%_}
 use lib.Dec.{eqb}
-use Rattle.whole_order.specs.Ascending.{placeOf, ascending}
+use Rattle.whole_order.specs.Ascending.{placeOf}
 use Rattle.table.specs.Opposites.{later}
 
 -- The code of the ordered pair of two corners; a table has at most 3,072 of them.
@@ -19,19 +19,6 @@ abbrev pub codesOf : List ℕ → List ℕ → List ℕ → List ℕ
 codesOf corners [] l = []
 codesOf corners (u ∷ k) [] = []
 codesOf corners (u ∷ k) (v ∷ l) = codeOf corners u v ∷ codesOf corners k l
-
--- Each code with its number, counted from i; and all of them in ascending order, for looking up.
-abbrev pub numberedFrom : ℕ → List ℕ → List ℕ
-numberedFrom i [] = []
-numberedFrom i (c ∷ l) = (c * 4096 + i) ∷ numberedFrom (suc i) l
-
-unfoldable pub indexOf : List ℕ → List ℕ
-indexOf codes = ascending (numberedFrom 0 codes)
-
--- The number, counted from 1, that stands with the first of a code in such a list; 0 where the code doesn't stand there.
-abbrev pub sideIn : ℕ → List ℕ → ℕ
-sideIn c [] = 0
-sideIn c (x ∷ index) = cond (eqb (x / 4096) c) (x % 4096 + 1) (sideIn c index)
 
 -- The number, counted from 1, of the first in a list that is c; 0 where there is none.
 abbrev pub numberIn : ℕ → List ℕ → ℕ

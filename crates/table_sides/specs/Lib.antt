@@ -1,2 +1,3 @@
--- Sides of a table as codes, by which they are looked up.
+-- Sides by their codes, and looked up by them.
 pub mod Codes
+pub mod Chains

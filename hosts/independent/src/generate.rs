@@ -12,7 +12,7 @@ mod polygons;
 mod sheets;
 mod spoil;
 
-use dice::Dice;
+pub use dice::Dice;
 use draft::Draft;
 use sheets::{not_carried_sheet, older_sheet, sound_or_older_sheet, sound_sheet, without_ground_sheet};
 
@@ -39,7 +39,7 @@ pub fn generate_numbers(seed: u64) -> Vec<u8> {
 /// The blob writer's input for this seed: a number before the writer's, which now and then is cut short.
 pub fn generate_blob_numbers(seed: u64) -> Vec<u8> {
     let mut dice = Dice::new(seed ^ 0x626c_6f62_6e75_6d73);
-    let number = dice.next().to_le_bytes();
+    let number = dice.roll().to_le_bytes();
     match dice.below(20) {
         0 => number[..dice.below(5)].to_vec(),
         _ => [&number[..4], &generate_numbers(seed)].concat(),

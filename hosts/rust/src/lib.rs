@@ -1,7 +1,7 @@
 //! Safe functions over the sheets library, which reads, checks, repairs and writes land-use sheets. Each entry of the library is proved to do what
 //! its description says, for every input; this crate only gives it ordinary Rust types.
 //!
-//! The library allocates nothing and keeps no state; any number of threads may call any function at once. A call needs 512 KiB of free stack,
+//! The library allocates nothing and keeps no state; any number of threads may call any function at once. A call needs 640 KiB of free stack,
 //! [`STACK`].
 #![warn(missing_docs)]
 
@@ -44,7 +44,7 @@ pub const BLOB_NUMBERS_ROOM: usize = 65_804;
 pub const WRITE_BLOB_ROOM: usize = 158_330;
 
 /// Free stack that a calling thread needs, in bytes.
-pub const STACK: usize = 524_288;
+pub const STACK: usize = 655_360;
 /// So many bytes of a file are always enough to read the sheet in it: what the library answers on the first so many of longer ones is what it answers on all.
 pub const READ_CAP: usize = 196_608;
 

@@ -1,10 +1,10 @@
--- `judged::judge` meets its contract: the first number tells how long the work lists are. Assumes nothing.
+-- `judged::judge` meets its contract: the first number tells how long the fronts of the lent lists are. Assumes nothing.
 use mathlib.Core.Path.{_≡_, sym, _∙_, ap}
 use Prim.Native.Nat.{ℕ, _+_, _-_, _*_, _≤_, _<_}
 use native.Mathlib.Omega.{arith}
 use borrow.Author.Needs.{needs}
 use denote.Ref.{now}
-use lib.ListN.{length, getD, take, drop, replicate}
+use lib.ListN.{length, getD, take, drop}
 use lib.Seq.{length-take-le}
 use Rattle.sheet_modes.specs.Modes.{framed}
 use Rattle.sheet_modes.specs.Held.{aroundOf}
@@ -13,15 +13,15 @@ use Rattle.judged.proofs.Judging.{on-fronts}
 use Rattle.judged.proofs.judge.Statement.{statement}
 use Rattle.judged.proofs.judge.Tie as tie
 
--- ---- places: the entry of the function, and the call of `judge_in`
+-- ---- places: the entry of the function, and the call of `judge_over`
 abbrev start : tie.After-shared-slice-known2 → tie.Start
 start c = c .before .before .before .before
 
-abbrev entry : tie.After-judge-in-arg2 → tie.Start
-entry c = start (c .before .before .before .before .before)
+abbrev entry : tie.After-judge-over-arg2 → tie.Start
+entry c = start (c .before .before)
 
-abbrev judge-in-call : tie.After-slice-known4 → tie.After-judge-in
-judge-in-call c = c .before .before .before .before .before .before .before
+abbrev judge-over-call : tie.After-slice-known4 → tie.After-judge-over
+judge-over-call c = c .before .before .before .before
 
 -- The number of triangles, off the first number: at most 1,024.
 abbrev many : tie.Start → ℕ
@@ -40,20 +40,18 @@ sets-front o = length-take-le (many o) (now (o .args .sets)) (omega (arith, few 
 opposite-front : (o : tie.Start) → length (take (3 * many o) (now (o .args .opposite))) ≡ 3 * many o
 opposite-front o = length-take-le (3 * many o) (now (o .args .opposite)) (omega (arith, few o, o .pre .1))
 
-judge-in-requires : tie.Need-judge-in-requires
-judge-in-requires c κs =
+judge-over-requires : tie.Need-judge-over-requires
+judge-over-requires c κs =
     let o = entry c in
-    let m = ap (λ t. 3 * t) (sym (sets-front o)) in
-    let w : length (take (3 * many o) (replicate {A = ℕ} 3072 0)) ≡ 3 * length (take (many o) (now (o .args .sets))) = length-take-le (3 * many o) (replicate 3072 0) (omega (arith, few o)) ∙ m in
-    ((o .pre .0 .0, o .pre .0 .1, omega (arith, first o .1, sets-front o)), record { keys = w; ordered = w; index = w; opposite = opposite-front o ∙ m })
+    ((o .pre .0 .0, o .pre .0 .1, omega (arith, first o .1, sets-front o)), opposite-front o ∙ ap (λ t. 3 * t) (sym (sets-front o)))
 
 returns : tie.Need-returns
 returns c = λ n held.
-    let d = judge-in-call c in
+    let d = judge-over-call c in
     let o = entry (d .before) in
     let e : length (n .table) ≡ many o = omega (arith, first-count n (now (o .args .numbers)) held .1) in
-    let k = d .judge-in .kept .1 .1 .1 .1 .1 in
-    on-fronts (framed (aroundOf (o .args .around)) n) n (d .judge-in .result) _ _ (drop (3 * many o) (now (o .args .opposite))) (drop (many o) (now (o .args .sets))) (d .judge-in .ensures n held (e ∙ sym (sets-front o)))
+    let k = d .judge-over .kept .1 .1 in
+    on-fronts (framed (aroundOf (o .args .around)) n) n (d .judge-over .result) _ _ (drop (3 * many o) (now (o .args .opposite))) (drop (many o) (now (o .args .sets))) (d .judge-over .ensures n held (e ∙ sym (sets-front o)))
     (k .0 ∙ opposite-front o ∙ ap (λ t. 3 * t) (sym e)) (k .1 .0 ∙ sets-front o ∙ sym e)
 
 pub judge-spec : {M : Type 1} → statement M
@@ -64,17 +62,11 @@ judge-spec =
     (λ c. omega (arith, first (start c) .1))
     (λ c. omega (arith, few (start c)))
     (λ c. omega (arith, few (start c)))
-    (λ c. omega (arith, few (start c)))
-    (λ c. sym (length-take-le _ _ (omega (arith, few (start (c .before))))))
-    (λ c. omega (arith, few (start (c .before))))
-    (λ c. sym (length-take-le _ _ (omega (arith, few (start (c .before .before))))))
-    (λ c. omega (arith, few (start (c .before .before))))
-    (λ c. sym (length-take-le _ _ (omega (arith, few (start (c .before .before .before))))))
-    (λ c. let o = start (c .before .before .before) in omega (arith, few o, o .pre .1))
-    (λ c. sym (opposite-front (start (c .before .before .before .before))))
-    (λ c. let o = start (c .before .before .before .before) in omega (arith, few o, o .pre .2))
+    (λ c. let o = start c in omega (arith, few o, o .pre .1))
+    (λ c. sym (opposite-front (start (c .before))))
+    (λ c. let o = start (c .before) in omega (arith, few o, o .pre .2))
     (λ c. sym (sets-front (entry c)))
-    judge-in-requires
+    judge-over-requires
     (λ c. search needs)
     (λ c. search needs)
     returns)

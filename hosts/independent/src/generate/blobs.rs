@@ -29,7 +29,7 @@ fn header(dice: &mut Dice, sheet: &[u8]) -> Head {
     let frame = read(sheet).map_or([-3.0, 8.0, 0.0, 4.0], |sheet| Envelope::of(&sheet).0);
     let envelope =
         dice.chance(80).then_some(frame.map(|double| if dice.chance(20) { minus_zero(double) } else { double }));
-    let any = dice.next() as i32;
+    let any = dice.roll() as i32;
     Head::sound(dice.chance(60), dice.pick(&[0, -1, 1, 4_326, 25_832, i32::MIN, i32::MAX, any, any]), envelope)
 }
 
@@ -50,7 +50,7 @@ fn another(dice: &mut Dice, mut envelope: [f64; 4]) -> [f64; 4] {
         0 => envelope.swap(one, other),
         1 => envelope[one] = dice.pick(&[old + 1.0, old - 1.0, old + 0.5, f64::from_bits(old.to_bits() ^ 1)]),
         2 => envelope[one] = dice.pick(&[f64::NAN, f64::INFINITY, f64::NEG_INFINITY, -old, 0.0, -0.0]),
-        _ => envelope[one] = f64::from_bits(dice.next()),
+        _ => envelope[one] = f64::from_bits(dice.roll()),
     }
     envelope
 }
@@ -62,7 +62,7 @@ fn damage(dice: &mut Dice, head: &mut Head) {
         1 => head.version ^= 1 << dice.below(8),
         2 => head.flags ^= 16 << dice.below(4),
         3 => head.flags = head.flags & 1 | (2 + dice.below(6) as u8) << 1,
-        4 => head.flags = dice.next() as u8,
+        4 => head.flags = dice.roll() as u8,
         _ => head.flags ^= 1 + dice.below(2) as u8,
     }
 }

@@ -42,7 +42,7 @@ fn cut_at_a_field(dice: &mut Dice, encoded: &mut Encoded) {
 
 fn change_a_byte(dice: &mut Dice, bytes: &mut [u8]) {
     if !bytes.is_empty() {
-        bytes[dice.below(bytes.len())] = dice.next() as u8;
+        bytes[dice.below(bytes.len())] = dice.roll() as u8;
     }
 }
 
@@ -60,7 +60,7 @@ fn append(dice: &mut Dice, bytes: &mut Vec<u8>) {
     if dice.chance(50) && from + count <= bytes.len() {
         bytes.extend_from_within(from..from + count);
     } else {
-        bytes.extend((0..count).map(|_| dice.next() as u8));
+        bytes.extend((0..count).map(|_| dice.roll() as u8));
     }
 }
 
@@ -142,7 +142,7 @@ fn strange_double(dice: &mut Dice) -> f64 {
         5 => dice.pick(&[10_000_000.000000002, -10_000_000.000000002, 9_999_999.999999998]),
         6 => dice.pick(&[2.0_f64.powi(31), 2.0_f64.powi(53), 2.0_f64.powi(63), 2.0_f64.powi(64), -1.0e300]),
         7 => dice.pick(&[-0.0, 0.0]),
-        8 => f64::from_bits(dice.next()),
+        8 => f64::from_bits(dice.roll()),
         _ => dice.between(-10_000_003, 10_000_003) as f64,
     }
 }

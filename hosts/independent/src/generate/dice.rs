@@ -7,11 +7,11 @@ impl Dice {
     /// The row of this seed.
     pub fn new(seed: u64) -> Dice {
         let mut dice = Dice(seed);
-        Dice(dice.next())
+        Dice(dice.roll())
     }
 
     /// The next number.
-    pub fn next(&mut self) -> u64 {
+    pub fn roll(&mut self) -> u64 {
         self.0 = self.0.wrapping_add(0x9e37_79b9_7f4a_7c15);
         let mixed = (self.0 ^ (self.0 >> 30)).wrapping_mul(0xbf58_476d_1ce4_e5b9);
         let mixed = (mixed ^ (mixed >> 27)).wrapping_mul(0x94d0_49bb_1331_11eb);
@@ -20,12 +20,12 @@ impl Dice {
 
     /// A number from 0 to n - 1; 0 if n is 0.
     pub fn below(&mut self, n: usize) -> usize {
-        (self.next() % n.max(1) as u64) as usize
+        (self.roll() % n.max(1) as u64) as usize
     }
 
     /// A number from low to high, both included.
     pub fn between(&mut self, low: i64, high: i64) -> i64 {
-        low + (self.next() % (high - low + 1) as u64) as i64
+        low + (self.roll() % (high - low + 1) as u64) as i64
     }
 
     /// True in so many cases of a hundred.

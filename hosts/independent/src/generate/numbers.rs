@@ -87,7 +87,7 @@ fn changed(dice: &mut Dice, mut numbers: Numbers) -> Vec<u8> {
         1 => old - 1,
         2 => edge,
         3 => -edge,
-        4 => i64::from(dice.next() as i32),
+        4 => i64::from(dice.roll() as i32),
         _ => i64::from(dice.pick(&counts)),
     };
     numbers.bytes()

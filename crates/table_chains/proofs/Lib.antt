@@ -1,0 +1,2 @@
+-- The laws of hanging sides in chains.
+pub mod Linking

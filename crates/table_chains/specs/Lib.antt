@@ -1,0 +1,2 @@
+-- The sides of a table hung in chains.
+pub mod Linking

@@ -1,2 +1,0 @@
--- The laws of such an order.
-pub mod Meeting

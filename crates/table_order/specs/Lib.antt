@@ -1,2 +1,0 @@
--- An order in which labels are forced.
-pub mod Meeting

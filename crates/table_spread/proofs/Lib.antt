@@ -1,0 +1,4 @@
+-- The laws of labels that spread.
+pub mod TouchedSides
+pub mod Spreading
+pub mod Sets

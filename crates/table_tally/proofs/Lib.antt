@@ -1,0 +1,2 @@
+-- The laws of counting edges at once.
+pub mod Direct

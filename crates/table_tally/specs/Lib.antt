@@ -1,0 +1,2 @@
+-- Edges that are counted at once.
+pub mod Direct

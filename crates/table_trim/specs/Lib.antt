@@ -1,0 +1,2 @@
+-- Edges with an end off the table.
+pub mod Trimming
