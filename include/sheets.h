@@ -6,8 +6,8 @@
    description says, for every input.
 
    How every entry works
-     - It takes the bytes of its input and bytes lent for the answer: a pointer and a length each. A length of 0 may come with any pointer that is not
-       null. The input and the lent bytes must not overlap.
+     - It takes the bytes of its input and bytes lent for the answer: a pointer and a length each. A length of 0 may come with any pointer, null too.
+       The input and the lent bytes must not overlap.
      - It answers one number, item * 256 + code: SHEETS_CODE(answer), SHEETS_ITEM(answer).
      - Code 0 is success: the answer's bytes stand at the front of the lent bytes, and the lent bytes past them keep their values. The item says how
        long the answer is (in bytes, triangles or sides, as said below).
@@ -17,8 +17,10 @@
 
    The codes are those of refusals.def, beside this file: what each item is, and a sentence for each. The item of codes 1 to 6 and 8 is a member, the place in
    the sheet, the table being 1 and 0 the sheet's own header. Triangles and polygons are numbered from 1, in order. Below, an entry's refusals stand in the
-   order in which they are looked for. "20/21" is one stage: polygons are judged in number order, and the first that is refused has 20 if no set of triangles
-   carries it, 21 if it has no ground, that is, if all its lines cancel. sheets.hpp has the entries for C++ with ordinary types. */
+   order in which they are looked for. "1 to 8" is one stage: the sheet is read field by field to the first fault. At each field 1 comes first; then at a byte
+   order 2, at a type 3 and then 8, at a count 4 (at the type of a 65th polygon, too), at a point 5, at the last point of a ring 6 after that; 7 comes last, once
+   the whole sheet is read. "20/21" is one stage: polygons are judged in number order, and the first that is refused has 20 if no set of triangles carries
+   it, 21 if it has no ground, that is, if all its lines cancel. sheets.hpp has the entries for C++ with ordinary types. */
 #ifndef SHEETS_H
 #define SHEETS_H
 
@@ -32,7 +34,7 @@ extern "C" {
 /* The version of the library, its headers, the Rust crate and the programs. */
 #define SHEETS_VERSION "0.1.0"
 
-#define SHEETS_CODE(answer) ((unsigned)((answer) & 255))
+#define SHEETS_CODE(answer) ((unsigned)(uint8_t)(answer))
 #define SHEETS_ITEM(answer) ((uint64_t)(answer) >> 8)
 
 /* Room that is always enough for the answer. */

@@ -88,7 +88,7 @@ inline std::string named(Item item, std::uint64_t number) {
     return number == 1 ? "member 1, the triangle table" : "member " + digits;
 }
 
-// An entry takes no null pointer, not for an empty input either.
+// What an entry is handed for an empty input is never the caller's pointer.
 inline const std::uint8_t *given(const std::uint8_t *bytes, std::size_t size) {
     static const std::uint8_t none = 0;
     return size == 0 ? &none : bytes;
@@ -198,17 +198,15 @@ inline std::string sentence(Refusal refusal) {
 // The sheet in numbers: the triangle count and six numbers each, the polygon count, then for each its parts, rings and points, every count before what it
 // counts, rings closed.
 inline Answer<std::vector<std::int32_t>> numbers(const std::uint8_t *sheet, std::size_t size) {
-    return inside::numbers(SHEETS_NUMBERS_ROOM, [&](std::uint8_t *lent, std::size_t room) {
-        return sheet_numbers(inside::given(sheet, size), size, lent, room);
-    });
+    return inside::numbers(SHEETS_NUMBERS_ROOM,
+                           [&](std::uint8_t *lent, std::size_t room) { return sheet_numbers(inside::given(sheet, size), size, lent, room); });
 }
 
 // The bytes of the sheet that the numbers make up, in one normal form.
 inline Answer<Bytes> write(const std::vector<std::int32_t> &numbers) {
     const Bytes given = inside::bytes_of(numbers);
-    return inside::call(SHEETS_WRITE_ROOM, 1, [&](std::uint8_t *lent, std::size_t room) {
-        return sheet_write(inside::given(given.data(), given.size()), given.size(), lent, room);
-    });
+    return inside::call(SHEETS_WRITE_ROOM, 1,
+                        [&](std::uint8_t *lent, std::size_t room) { return sheet_write(inside::given(given.data(), given.size()), given.size(), lent, room); });
 }
 
 // The blob that the numbers make up, the reference-system number before those of the sheet.
@@ -264,9 +262,8 @@ inline Answer<std::vector<std::int32_t>> numbers_by(const std::uint8_t *sheet, s
 }
 
 inline Answer<std::vector<std::uint64_t>> owner_sets_by(const std::uint8_t *sheet, std::size_t size, Mode mode) {
-    return inside::owner_sets([&](std::uint8_t *lent, std::size_t room) {
-        return sheet_owner_sets_by(inside::given(sheet, size), size, inside::number(mode), lent, room);
-    });
+    return inside::owner_sets(
+        [&](std::uint8_t *lent, std::size_t room) { return sheet_owner_sets_by(inside::given(sheet, size), size, inside::number(mode), lent, room); });
 }
 
 inline Answer<Bytes> owners_by(const std::uint8_t *sheet, std::size_t size, Mode mode, Way way) {

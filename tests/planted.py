@@ -21,9 +21,11 @@ from tally import tally
 ROOT = os.path.dirname(os.path.dirname(os.path.abspath(__file__)))
 BUILD = os.path.join(ROOT, "target", "hosts", "planted")
 TARGET, RUN = os.environ.get("TARGET", "x86_64-unknown-linux-gnu"), os.environ.get("RUN", "")
+# Where the gate was built, with the crates that it takes, and which words cargo takes them by: gates with a fault are built there, too, without building the crates again.
+GATES, CRATES = os.environ.get("CARGO_TARGET_DIR", os.path.join(BUILD, "gates")), os.environ.get("CRATES", "").split()
 # What is built and tested for a fault in a file, by how the file's path begins; and which of the two copies has it.
 PARTS = (("include/refusals.def", "checker", "cpp"), ("include/", "header", "cpp"), ("hosts/cpp/", "checker", "cpp"),
-         ("hosts/rust/src/bin/", "gate", "rust"), ("hosts/rust/", "crate", "rust"))
+         ("hosts/gate/", "gate", "rust"), ("hosts/rust/", "crate", "rust"))
 
 
 def edits():
@@ -46,7 +48,7 @@ class Copy:
         self.tree, self.made = os.path.join(BUILD, name, "tree"), os.path.join(BUILD, name, "made")
         self.differ, self.checker, self.gate, self.folder = differ, checker, gate, folder
         shutil.rmtree(os.path.join(BUILD, name), ignore_errors=True)
-        for part in ("include", "hosts/cpp", "hosts/rust", "hosts/beside", "hosts/independent"):
+        for part in ("include", "hosts/cpp", "hosts/rust", "hosts/gate", "hosts/beside", "hosts/independent"):
             shutil.copytree(os.path.join(ROOT, part), os.path.join(self.tree, part), ignore=shutil.ignore_patterns("target"))
         os.makedirs(os.path.join(self.tree, "target"))
         os.symlink(os.path.join(ROOT, "target", "staticlib"), os.path.join(self.tree, "target", "staticlib"))
@@ -54,8 +56,8 @@ class Copy:
     def path(self, file):
         return os.path.join(self.tree, file)
 
-    def made_by_cargo(self, program):
-        return ("%s %s" % (RUN, os.path.join(self.made, TARGET, "debug", program))).strip()
+    def made_by_cargo(self, *path):
+        return ("%s %s" % (RUN, os.path.join(*path))).strip()
 
     def made_by_cmake(self, program):
         return ("%s %s" % (RUN, os.path.join(self.made, program))).strip()
@@ -65,18 +67,20 @@ class Copy:
         if part in ("header", "checker"):
             return [["cmake", "-S", self.path("hosts/cpp"), "-B", self.made, "-DCMAKE_BUILD_TYPE=None"],
                     ["cmake", "--build", self.made, "--target", "bridge" if part == "header" else "checker"]]
-        manifest, program = ("hosts/beside", "bridge") if part == "crate" else ("hosts/rust", "gate")
-        built = ["--manifest-path", self.path(manifest + "/Cargo.toml"), "--bin", program]
-        return [["cargo", "build", "--quiet", "--target", TARGET, "--target-dir", self.made, *built]]
+        if part == "gate":
+            built = ["--release", *CRATES, "--config", "profile.release.package.gate.opt-level=0", "--target-dir", GATES, "--manifest-path", self.path("hosts/gate/Cargo.toml")]
+        else:
+            built = ["--target-dir", self.made, "--manifest-path", self.path("hosts/beside/Cargo.toml"), "--bin", "bridge"]
+        return [["cargo", "build", "--quiet", "--target", TARGET, *built]]
 
     def tests(self, part):
         """The commands that test a part: a wrapper on the largest sheets and on some that can't be read, the crate's functions on lent bytes, a program on
         the folder's."""
         if part in ("header", "crate"):
-            bridge = self.made_by_cmake("bridge") if part == "header" else self.made_by_cargo("bridge")
+            bridge = self.made_by_cmake("bridge") if part == "header" else self.made_by_cargo(self.made, TARGET, "debug", "bridge")
             wrapped = [[self.differ, "--wrapped", bridge, *inputs] for inputs in (("largest", "6"), ("seeds", "60"))]
             return wrapped + [[self.differ, bridge, "seeds", "200"]] * (part == "crate")
-        programs = (self.made_by_cmake("checker"), self.gate) if part == "checker" else (self.checker, self.made_by_cargo("gate"))
+        programs = (self.made_by_cmake("checker"), self.gate) if part == "checker" else (self.checker, self.made_by_cargo(GATES, TARGET, "release", "gate"))
         return [[sys.executable, os.path.join(ROOT, "tests", "programs.py"), "--sheets", *programs, self.folder]]
 
     def tried(self, part):

@@ -529,11 +529,13 @@ def options(programs):
         for word in (b"--nonsense", b"-x", b"---", b"-\x1b"):
             hint = "%s: there is no option %s: see %s --help; a file of that name is written ./%s or behind --" % (name, shown(word), name, shown(word))
             outcomes.append(equal("no option", run(program, word, "--help"), (3, [], [hint])))
+        valued = (3, [], ["%s: the option --older takes no value: see %s --help" % (name, name)])
+        outcomes.append(equal("an option with a value", run(program, "--older=1", "--help"), valued))
     outcomes.append(equal("no word", run(programs.gate), (3, [], ["gate: no file and no folder is named: see gate --help"])))
-    with folder_of(dict.fromkeys(["-x", "--", "--help", "-", "y"], b"")) as folder:
-        words = ["y", "./-x", "./-", "--", "-x", "--", "--help", "-"]
+    with folder_of(dict.fromkeys(["-x", "--", "--help", "-", "y", "[y,z]", "++"], b"")) as folder:
+        words = ["y", "./-x", "./-", "[y,z]", "++", "--", "-x", "--", "--help", "-"]
         lines = [line(word, EMPTY) for word in words if word != "--"]
-        lines.insert(4, line("--", EMPTY))
+        lines.insert(6, line("--", EMPTY))
         outcomes += programs.same("names with a dash", words, lines, cwd=folder)
     return outcomes
 
@@ -629,12 +631,13 @@ def progress(gate, sheet):
     ours, theirs = pty.openpty()
     with start(gate, "-", sheet, stderr=theirs) as program:
         os.close(theirs)
-        time.sleep(1.2)
+        time.sleep(3)
         program.stdin.close()
         program.stdout.read()
         said = os.read(ours, 1000) if select.select([ours], [], [], 5)[0] else b""
     os.close(ours)
-    return [equal("progress", (said[:22], said[-23:].strip()), (b"\r1 of 2 sheets checked", b"2 of 2 sheets checked"))]
+    drawn = [text.strip() for text in re.split(rb"[\r\n]|\x1b\[\d*[A-Z]", said) if text.strip()]
+    return [equal("progress", (drawn[:1], drawn[-1:]), ([b"1 of 2 sheets checked"], [b"2 of 2 sheets checked"]))]
 
 
 def main(checker, gate, folder):

@@ -1,8 +1,8 @@
 // Calls the entries, or the functions of sheets.hpp, as the frames of standard input say, for a program that has the library on the other side of a pipe.
 // A frame: u8 function (0 numbers, 1 write, 2 owner sets, 3 owners, 4 boundary, 5 listing, 6 verdict, 7 position; 8 numbers, 9 owner sets, 10 owners, 11 boundary,
 // 12 listing by what is asked; 13 write blob), u32 LE mode, u32 LE way, u32 LE polygon, u32 LE input length, u32 LE room, input. The answer: u64 LE packed answer,
-// then the lent bytes after the entry's call; lent byte i is (i * 131 + 17) % 256 before it. Bytes before and behind the lent ones are watched: where a call
-// changes one, or one of its input, the program ends with status 2.
+// then the lent bytes after the entry's call; lent byte i is (i * 131 + 17) % 256 before it. No bytes, of the input or lent, come with a null pointer. Bytes before
+// and behind the lent ones are watched: where a call changes one, or one of its input, the program ends with status 2.
 // With a room of 2^32 - 1 a function of sheets.hpp is called. The answer: u64 LE packed answer, u32 LE length, its value in so many bytes, none for a refusal; a
 // verdict is one byte, 0 clean or 1 repair, and in mode 0 a verdict and a position are those without a mode. With --stack N the calls are made on a thread with N KiB
 // of stack.
@@ -26,9 +26,7 @@ constexpr std::size_t head = 21, guard = 64, chunk = 1 << 16, most_room = 1 << 2
 constexpr std::uint8_t watched = 0x5a;
 constexpr std::uint32_t own_room = 0xffffffff;
 
-std::uint32_t number(const std::uint8_t *at) {
-    return at[0] | at[1] << 8 | at[2] << 16 | static_cast<std::uint32_t>(at[3]) << 24;
-}
+std::uint32_t number(const std::uint8_t *at) { return at[0] | at[1] << 8 | at[2] << 16 | static_cast<std::uint32_t>(at[3]) << 24; }
 
 // What a frame asks for.
 struct Asked {
@@ -36,9 +34,7 @@ struct Asked {
     std::uint32_t mode, way, polygon;
 };
 
-Asked asked_in(const std::uint8_t *frame) {
-    return {frame[0], number(frame + 1), number(frame + 5), number(frame + 9)};
-}
+Asked asked_in(const std::uint8_t *frame) { return {frame[0], number(frame + 1), number(frame + 5), number(frame + 9)}; }
 
 std::uint64_t call(const Asked &asked, const std::uint8_t *input, std::size_t size, std::uint8_t *lent, std::size_t room) {
     switch (asked.function) {
@@ -88,7 +84,7 @@ void answer(const std::uint8_t *frame, std::size_t size, std::size_t room, Bytes
     std::memcpy(lent.data() + guard, fresh().data(), room);
     std::memset(lent.data() + guard + room, watched, guard);
     before.assign(frame + head, frame + head + size);
-    std::uint64_t packed = call(asked_in(frame), frame + head, size, lent.data() + guard, room);
+    std::uint64_t packed = call(asked_in(frame), size == 0 ? nullptr : frame + head, size, room == 0 ? nullptr : lent.data() + guard, room);
     if (!untouched(lent.data()) || !untouched(lent.data() + guard + room) || (size != 0 && std::memcmp(before.data(), frame + head, size) != 0)) {
         std::fprintf(stderr, "bridge: a byte outside the lent ones was changed\n");
         std::exit(2);
@@ -112,9 +108,7 @@ struct Value {
 };
 
 // The packed answer of a refusal, or of an item.
-std::uint64_t packed(sheets::Refusal refusal, std::uint64_t item) {
-    return refusal.code == 0 ? item << 8 : refusal.item << 8 | refusal.code;
-}
+std::uint64_t packed(sheets::Refusal refusal, std::uint64_t item) { return refusal.code == 0 ? item << 8 : refusal.item << 8 | refusal.code; }
 
 template <class Number>
 Bytes bytes_of(const std::vector<Number> &numbers) {
@@ -130,9 +124,7 @@ Bytes bytes_of(const std::vector<sheets::Side> &sides) {
     return bytes;
 }
 
-Value listing(const std::string &text) {
-    return {{}, text.size(), Bytes(text.begin(), text.end())};
-}
+Value listing(const std::string &text) { return {{}, text.size(), Bytes(text.begin(), text.end())}; }
 
 Value verdict(const sheets::Verdict &verdict) {
     if (verdict.finding == sheets::Finding::Refused) return {verdict.refusal};

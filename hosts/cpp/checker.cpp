@@ -1,6 +1,7 @@
 // The desktop checker's command line: prints the listing of sheets, or one verdict line for each.
 #include "files.hpp"
 #include "names.hpp"
+#include "options.hpp"
 
 #include <sheets.hpp>
 
@@ -28,20 +29,6 @@ using sheets::Verdict;
 
 // The exit statuses; the highest counts.
 enum Status { Clean = 0, Repair = 1, Refused = 2, Unreadable = 3 };
-
-const char help[] =
-    "usage: checker [--batch] [--older] [--blob] [FILE..]\n"
-    "Prints the listing of each sheet file, with its name above where there are several, or of standard input where no file is named.\n"
-    "The verdict line of a sheet that is refused or could not be read goes to standard error.\n"
-    "  --batch      the verdict lines alone: FILE: clean, FILE: repair, FILE: refused CODE ITEM: WHY, or FILE: could not be read: WHY\n"
-    "  --older      the sheets are of the older edition: rings that run the wrong way are turned\n"
-    "  --blob       each file is a geometry blob of a GeoPackage table, with a sheet in it\n"
-    "  -h, --help   this text\n"
-    "  --version    the version\n"
-    "  --           every word behind it is a file\n"
-    "With the codes 1 to 8 it is refused CODE ITEM at byte N: WHY, where N is the place of the fault in the file, 0 for its first byte.\n"
-    "FILE is a regular file, or - for standard input. A file whose name begins with a dash is written ./-name, or behind --.\n"
-    "Exit status: 0 all sheets are clean, 1 one needs repair, 2 one is refused, 3 one could not be read; the highest counts.\n";
 
 // Writes all of a text, at once, so that it is kept whatever ends the program.
 void put(std::string_view text) {
@@ -101,9 +88,7 @@ std::string line(const std::string &path, const Sheet &sheet, const Verdict &ver
     return name + ": " + refused(sheet, verdict.refusal) + '\n';
 }
 
-Status status(const Verdict &verdict) {
-    return verdict.finding == Finding::Clean ? Clean : verdict.finding == Finding::Repair ? Repair : Refused;
-}
+Status status(const Verdict &verdict) { return verdict.finding == Finding::Clean ? Clean : verdict.finding == Finding::Repair ? Repair : Refused; }
 
 // What is printed for a file: its verdict line, its listing, or its name and its listing.
 enum class Print { Line, Listing, Named };
@@ -153,32 +138,16 @@ Mode mode_of(bool older, bool blob) {
 
 // Does what the words of the command say.
 int run(const std::vector<std::string> &words) {
-    bool batch = false, older = false, blob = false, only_files = false;
-    std::vector<std::string> paths;
-    for (const std::string &word : words) {
-        if (only_files || word == "-" || word.substr(0, 1) != "-") {
-            paths.push_back(word);
-        } else if (word == "-h" || word == "--help") {
-            put(help);
-            return Clean;
-        } else if (word == "--version") {
-            put("checker " SHEETS_VERSION "\n");
-            return Clean;
-        } else if (word == "--batch") {
-            batch = true;
-        } else if (word == "--older") {
-            older = true;
-        } else if (word == "--blob") {
-            blob = true;
-        } else if (word == "--") {
-            only_files = true;
-        } else {
-            const std::string name = names::shown(word);
-            say("checker: there is no option " + name + ": see checker --help; a file of that name is written ./" + name + " or behind --\n");
-            return Unreadable;
-        }
+    try {
+        const options::Asked asked = options::asked_by(words);
+        return check_all(asked.paths, mode_of(asked.older, asked.blob), asked.batch);
+    } catch (const options::Text &asked) {
+        put(asked.text);
+        return Clean;
+    } catch (const options::Misled &why) {
+        say(std::string("checker: ") + why.what() + '\n');
+        return Unreadable;
     }
-    return check_all(paths, mode_of(older, blob), batch);
 }
 
 // The command's words, and the status to end with.

@@ -5,7 +5,11 @@
 //! [`STACK`].
 #![warn(missing_docs)]
 
+mod sheet;
+
 use std::fmt;
+
+pub use sheet::{Part, Polygon, Ring, Sheet, Triangle};
 
 extern "C" {
     fn sheet_numbers(sheet: *const u8, sheet_len: usize, out: *mut u8, out_len: usize) -> u64;
@@ -302,7 +306,7 @@ mod typed {
 }
 
 /// The sheet in numbers: the triangle count and six numbers each, the polygon count, then for each its parts, rings and points, every count before
-/// what it counts, rings closed.
+/// what it counts, rings closed. [`Sheet`] has them by name.
 pub fn numbers(sheet: &[u8]) -> Result<Vec<i32>, Refusal> {
     typed::numbers(NUMBERS_ROOM, |out| lent::numbers(sheet, out))
 }

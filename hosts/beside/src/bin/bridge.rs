@@ -5,7 +5,7 @@ use beside::call;
 use independent::bridge::{before_call, Function};
 use sheets::{boundary, listing, numbers, owner_sets, owners, position, verdict, write, write_blob};
 use sheets::{boundary_by, listing_by, numbers_by, owner_sets_by, owners_by, position_by, verdict_by};
-use sheets::{Mode, Point, Position, Refusal, Verdict, Way};
+use sheets::{Mode, Point, Position, Refusal, Sheet, Verdict, Way};
 use std::io::{BufRead, BufReader, Read, Write};
 
 /// The item and the value in bytes, or the refusal.
@@ -62,7 +62,7 @@ fn own(answer: Answer) -> Vec<u8> {
 fn typed(function: u8, [mode_number, way_number, polygon]: [u32; 3], input: &[u8]) -> Answer {
     let (mode, way) = (mode(mode_number), way(way_number));
     match function {
-        0 => numbers(input).map(|numbers| counted(bytes(&numbers))),
+        0 => numbers(input).map(|numbers| counted(bytes(&by_name(&numbers)))),
         1 => write(&whole_numbers(input)).map(counted),
         2 => owner_sets(input).map(of_sets),
         3 => owners(input).map(counted),
@@ -99,6 +99,11 @@ fn way(number: u32) -> Way {
         0 => Way::Priority,
         _ => panic!("the crate has no way {number}"),
     }
+}
+
+/// The numbers of a sheet by way of the sheet by name.
+fn by_name(numbers: &[i32]) -> Vec<i32> {
+    Sheet::from_numbers(numbers).expect("the numbers of a sheet").to_numbers()
 }
 
 fn of_sets(sets: Vec<u64>) -> (u64, Vec<u8>) {

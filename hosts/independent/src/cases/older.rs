@@ -144,8 +144,8 @@ fn twice(cases: &mut Cases) {
 /// Table pieces of either type are never turned.
 fn pieces(cases: &mut Cases) {
     let [a, b, c] = strips(&[0, 2])[1];
-    let kinds: [(&str, fn(Corners) -> Geometry); 2] = [("17", piece), ("3", piece_of_type_3)];
-    for (kind, made) in kinds {
+    let kinds: [fn(Corners) -> Geometry; 2] = [piece, piece_of_type_3];
+    for (kind, made) in ["17", "3"].into_iter().zip(kinds) {
         let table = tin(vec![made(strips(&[0, 2])[0]), made([a, c, b])]);
         let sheet = collection(vec![table, one(turned(from_to(0, 2)))]);
         let name = format!("a piece of type {kind} clockwise, with a polygon clockwise");

@@ -9,9 +9,14 @@ use std::ffi::OsString;
 use std::io::{self, IsTerminal, Write};
 use std::os::unix::ffi::OsStrExt;
 use std::process::exit;
-use std::sync::atomic::{AtomicUsize, Ordering};
 use std::sync::mpsc;
-use std::time::{Duration, Instant};
+use std::time::Duration;
+
+use clap::error::{ContextKind, ContextValue, ErrorKind};
+use clap::{Arg, ArgAction};
+use indicatif::{ProgressBar, ProgressDrawTarget, ProgressStyle};
+use rayon::iter::{ParallelBridge, ParallelIterator};
+use rayon::{ThreadPool, ThreadPoolBuilder};
 
 use files::{Candidate, Look};
 use lines::Outcome;
@@ -38,8 +43,8 @@ Exit status: 0 all sheets are clean, 1 one needs repair, 2 one is refused, 3 one
 /// The status of a sheet that could not be read, and of a command that can't be followed.
 const UNREADABLE: i32 = 3;
 
-/// How often the progress line changes; a delivery that takes no longer has none.
-const PROGRESS_EVERY: Duration = Duration::from_secs(1);
+/// When the progress line begins; a delivery that takes no longer has none.
+const PROGRESS_AFTER: Duration = Duration::from_secs(1);
 
 /// A message; where standard error can't be written, nobody is there to be told.
 fn say(text: &str) {
@@ -56,7 +61,6 @@ fn put(text: &str) {
 }
 
 /// What the command asks for.
-#[derive(Default)]
 struct Command {
     json: bool,
     flat: bool,
@@ -65,27 +69,55 @@ struct Command {
 }
 
 impl Command {
-    /// The words of the command; a text that is asked for, or a word that can't be followed, ends the program.
-    fn of(words: impl Iterator<Item = OsString>) -> Command {
-        let mut command = Command::default();
-        let mut only_paths = false;
-        for word in words {
-            match word.as_bytes() {
-                text if only_paths || text == b"-" || !text.starts_with(b"-") => command.paths.push(word),
-                b"-h" | b"--help" => finish(HELP),
-                b"--version" => finish(concat!("gate ", env!("CARGO_PKG_VERSION"), "\n")),
-                b"--json" => command.json = true,
-                b"--flat" => command.flat = true,
-                b"--older" => command.mode = command.mode.older(),
-                b"--blob" => command.mode = command.mode.of_blobs(),
-                b"--" => only_paths = true,
-                text => {
-                    let name = shown(text);
-                    refuse(&format!("there is no option {name}: see gate --help; a file of that name is written ./{name} or behind --"))
-                }
-            }
+    /// The words that the command takes.
+    fn words() -> clap::Command {
+        let flag = |name| Arg::new(name).long(name).action(ArgAction::SetTrue);
+        let paths = Arg::new("PATH").num_args(1..).required(true).value_parser(clap::value_parser!(OsString));
+        clap::Command::new("gate")
+            .disable_version_flag(true)
+            .args_override_self(true)
+            .args(["json", "flat", "older", "blob"].map(flag))
+            .arg(Arg::new("version").long("version").action(ArgAction::Version))
+            .version(env!("CARGO_PKG_VERSION"))
+            .arg(paths)
+    }
+
+    /// What the words of the command say; a text that is asked for, or a word that can't be followed, ends the program.
+    fn of(words: &[OsString]) -> Command {
+        let given = match Command::words().no_binary_name(true).try_get_matches_from(words) {
+            Ok(given) => given,
+            Err(error) => match error.kind() {
+                ErrorKind::DisplayHelp => finish(HELP),
+                ErrorKind::DisplayVersion => finish(concat!("gate ", env!("CARGO_PKG_VERSION"), "\n")),
+                _ => refuse(&misled(words, &error)),
+            },
+        };
+        let mut mode = Mode::Present;
+        if given.get_flag("older") {
+            mode = mode.older();
         }
-        command
+        if given.get_flag("blob") {
+            mode = mode.of_blobs();
+        }
+        let paths = given.get_many("PATH").into_iter().flatten().cloned().collect();
+        Command { json: given.get_flag("json"), flat: given.get_flag("flat"), mode, paths }
+    }
+}
+
+/// Why the words of the command can't be followed.
+fn misled(words: &[OsString], error: &clap::Error) -> String {
+    let option = match error.get(ContextKind::InvalidArg) {
+        Some(ContextValue::String(option)) => option.as_str(),
+        _ => "",
+    };
+    match error.kind() {
+        ErrorKind::MissingRequiredArgument => "no file and no folder is named: see gate --help".to_string(),
+        ErrorKind::TooManyValues => format!("the option {option} takes no value: see gate --help"),
+        _ => {
+            let word = words.iter().filter(|word| word.to_string_lossy().starts_with(option)).min_by_key(|word| word.len());
+            let name = shown(word.map_or(option.as_bytes(), |word| word.as_bytes()));
+            format!("there is no option {name}: see gate --help; a file of that name is written ./{name} or behind --")
+        }
     }
 }
 
@@ -111,16 +143,6 @@ fn check(candidate: &Candidate, mode: Mode) -> Outcome {
     }
 }
 
-/// Checks candidate after candidate, until none is left or nobody wants to know.
-fn work(candidates: &[Candidate], mode: Mode, next: &AtomicUsize, outcomes: mpsc::Sender<(usize, Outcome)>) {
-    loop {
-        let place = next.fetch_add(1, Ordering::Relaxed);
-        if place >= candidates.len() || outcomes.send((place, check(&candidates[place], mode))).is_err() {
-            return;
-        }
-    }
-}
-
 /// Hands outcomes on by their places, each as soon as all before it are there.
 fn in_order(outcomes: mpsc::Receiver<(usize, Outcome)>, mut ready: impl FnMut(usize, Outcome)) {
     let mut early = BTreeMap::new();
@@ -134,56 +156,44 @@ fn in_order(outcomes: mpsc::Receiver<(usize, Outcome)>, mut ready: impl FnMut(us
     }
 }
 
+/// So many threads with the stack that the library needs, or one where the system doesn't give as many.
+fn threads(count: usize) -> ThreadPool {
+    let started = |count| ThreadPoolBuilder::new().num_threads(count).stack_size(2 * sheets::STACK).build();
+    started(count).or_else(|_| started(1)).unwrap_or_else(|error| refuse(&format!("no thread could be started: {error}")))
+}
+
 /// Checks all candidates, each core taking the next one, and hands the outcomes on in order.
 fn check_all(candidates: &[Candidate], mode: Mode, ready: impl FnMut(usize, Outcome)) {
-    let next = AtomicUsize::new(0);
     let cores = std::thread::available_parallelism().map_or(1, |n| n.get());
     let (sender, receiver) = mpsc::channel();
-    std::thread::scope(|scope| {
-        for core in 0..cores.min(candidates.len()) {
-            let (next, sender) = (&next, sender.clone());
-            let started = std::thread::Builder::new().stack_size(2 * sheets::STACK).spawn_scoped(scope, move || work(candidates, mode, next, sender));
-            match started {
-                Err(error) if core == 0 => refuse(&format!("no thread could be started: {}", files::reason(&error))),
-                Err(_) => break,
-                Ok(_) => (),
-            }
-        }
-        drop(sender);
+    threads(cores.min(candidates.len())).in_place_scope(|scope| {
+        scope.spawn(move |_| {
+            let each = candidates.iter().enumerate().par_bridge();
+            each.for_each_with(sender, |outcomes, (place, candidate)| drop(outcomes.send((place, check(candidate, mode)))));
+        });
         in_order(receiver, ready);
     });
 }
 
-/// A line on a terminal that says how far a long delivery has come, where the verdicts go elsewhere.
-struct Progress {
-    wanted: bool,
-    begun: bool,
-    last: Instant,
-    all: usize,
+/// A line that says how far a delivery has come; it is hidden until the delivery is a long one.
+fn progress(all: usize) -> ProgressBar {
+    let line = ProgressStyle::with_template("{pos} of {len} sheets checked").expect("a template");
+    ProgressBar::with_draw_target(Some(all as u64), ProgressDrawTarget::hidden()).with_style(line)
 }
 
-impl Progress {
-    fn of(all: usize) -> Progress {
-        Progress { wanted: io::stderr().is_terminal() && !io::stdout().is_terminal(), begun: false, last: Instant::now(), all }
+/// One sheet more is checked. The line is for a terminal, where the verdicts go elsewhere.
+fn advance(progress: &ProgressBar) {
+    if progress.is_hidden() && progress.elapsed() > PROGRESS_AFTER && !io::stdout().is_terminal() {
+        progress.set_draw_target(ProgressDrawTarget::stderr_with_hz(1));
     }
-
-    fn at(&mut self, done: usize) {
-        let last = self.begun && done == self.all;
-        if last || self.wanted && self.last.elapsed() > PROGRESS_EVERY {
-            say(&format!("\r{done} of {} sheets checked{}", self.all, if done == self.all { "\n" } else { "" }));
-            self.begun = true;
-            self.last = Instant::now();
-        }
-    }
+    progress.inc(1);
 }
 
 fn main() {
     std::panic::set_hook(Box::new(|panic| refuse(&panic.to_string().replace('\n', " "))));
     memory::end_where_the_system_gives_up();
-    let command = Command::of(std::env::args_os().skip(1));
-    if command.paths.is_empty() {
-        refuse("no file and no folder is named: see gate --help");
-    }
+    let words: Vec<OsString> = std::env::args_os().skip(1).collect();
+    let command = Command::of(&words);
     if command.paths.iter().filter(|path| *path == "-").count() > 1 {
         refuse("standard input can be named only once");
     }
@@ -191,13 +201,14 @@ fn main() {
     for passed in &found.passed {
         say(&format!("gate: {}: passed over: {}\n", shown(passed.name.as_bytes()), passed.why));
     }
-    let mut progress = Progress::of(found.candidates.len());
+    let progress = progress(found.candidates.len());
     let mut counts = [0; 4];
     check_all(&found.candidates, command.mode, |place, outcome| {
         counts[outcome.status()] += 1;
         put(&outcome.line(&found.candidates[place].name, command.json));
-        progress.at(place + 1);
+        advance(&progress);
     });
+    progress.finish();
     put(&lines::summary(counts, found.passed.len(), command.json));
     exit(counts.iter().rposition(|count| *count > 0).unwrap_or(0) as i32);
 }

@@ -2,6 +2,7 @@
 use std::ffi::OsStr;
 use std::os::unix::ffi::OsStrExt;
 
+use serde_json::{json, Value};
 use sheets::{Mode, Refusal, Verdict};
 
 use crate::names::shown;
@@ -38,7 +39,7 @@ impl Outcome {
     pub fn line(&self, name: &OsStr, json: bool) -> String {
         let name = shown(name.as_bytes());
         if json {
-            return format!("{{\"file\":{},{}}}\n", quoted(&name), self.members());
+            return format!("{}\n", self.object(&name));
         }
         match self {
             Outcome::Clean => format!("{name}: clean\n"),
@@ -51,17 +52,20 @@ impl Outcome {
         }
     }
 
-    /// The members of the JSON object behind the file's name.
-    fn members(&self) -> String {
+    /// The JSON object of the file with this name.
+    fn object(&self, name: &str) -> Value {
         match self {
-            Outcome::Clean => "\"verdict\":\"clean\"".to_string(),
-            Outcome::Repair => "\"verdict\":\"repair\"".to_string(),
+            Outcome::Clean => json!({"file": name, "verdict": "clean"}),
+            Outcome::Repair => json!({"file": name, "verdict": "repair"}),
             Outcome::Refused(refusal, position) => {
-                let place = position.map_or(String::new(), |byte| format!(",\"position\":{byte}"));
-                let reason = quoted(&refusal.sentence());
-                format!("\"verdict\":\"refused\",\"code\":{},\"item\":{}{place},\"reason\":{reason}", refusal.code, refusal.item)
+                let mut members = json!({"file": name, "verdict": "refused", "code": refusal.code, "item": refusal.item});
+                if let Some(byte) = *position {
+                    members["position"] = json!(byte);
+                }
+                members["reason"] = json!(refusal.sentence());
+                members
             }
-            Outcome::Unread(why) => format!("\"verdict\":\"unreadable\",\"reason\":{}", quoted(why)),
+            Outcome::Unread(why) => json!({"file": name, "verdict": "unreadable", "reason": why}),
         }
     }
 }
@@ -77,19 +81,13 @@ fn grouped(number: u64) -> String {
     digits
 }
 
-/// A text without control characters as a JSON string.
-fn quoted(text: &str) -> String {
-    format!("\"{}\"", text.replace('\\', "\\\\").replace('"', "\\\""))
-}
-
 /// How many files came to each status, and how many were passed over, as the last line.
 pub fn summary(counts: [usize; 4], passed: usize, json: bool) -> String {
     let sheets: usize = counts.iter().sum();
     let [clean, repair, refused, unread] = counts;
     if json {
-        format!(
-            "{{\"sheets\":{sheets},\"clean\":{clean},\"repair\":{repair},\"refused\":{refused},\"unreadable\":{unread},\"passed_over\":{passed}}}\n"
-        )
+        let object = json!({"sheets": sheets, "clean": clean, "repair": repair, "refused": refused, "unreadable": unread, "passed_over": passed});
+        format!("{object}\n")
     } else {
         let noun = if sheets == 1 { "sheet" } else { "sheets" };
         format!("{sheets} {noun}: {clean} clean, {repair} to repair, {refused} refused, {unread} could not be read; {passed} passed over\n")

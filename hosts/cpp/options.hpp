@@ -1,0 +1,28 @@
+// What the words of the checker's command ask for.
+#pragma once
+
+#include <stdexcept>
+#include <string>
+#include <vector>
+
+namespace options {
+
+struct Asked {
+    bool batch = false, older = false, blob = false;
+    std::vector<std::string> paths = {};
+};
+
+// A text that is asked for in the place of everything else.
+struct Text {
+    const char *text;
+};
+
+// Why the words can't be followed.
+struct Misled : std::runtime_error {
+    using std::runtime_error::runtime_error;
+};
+
+// What the words ask for. Throws a Text that is asked for, unless a word before it can't be followed, and Misled where one can't.
+Asked asked_by(const std::vector<std::string> &words);
+
+}  // namespace options

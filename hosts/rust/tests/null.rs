@@ -1,0 +1,71 @@
+//! Every entry answers a null pointer with length 0, for its input and for the lent bytes, as it answers any other pointer with that length.
+use std::ptr::{null, null_mut};
+
+use sheets::{lent, Refusal};
+
+/// The answers of an entry, called by name: without input or room, without input, and without room.
+macro_rules! entries {
+    ($($name:ident($($asked:expr),*) on $input:expr;)*) => {{
+        extern "C" {
+            $(fn $name(input: *const u8, size: usize, $(_: entries!(number $asked),)* out: *mut u8, room: usize) -> u64;)*
+        }
+        let mut room = [9; 64];
+        // SAFETY: each pointer that isn't null is one to so many bytes, which nothing else uses meanwhile.
+        vec![$((stringify!($name), unsafe {
+            let neither = $name(null(), 0, $($asked,)* null_mut(), 0);
+            let no_input = $name(null(), 0, $($asked,)* room.as_mut_ptr(), room.len());
+            let no_room = $name($input.as_ptr(), $input.len(), $($asked,)* null_mut(), 0);
+            [neither, no_input, no_room]
+        }),)*]
+    }};
+    (number $asked:expr) => { u32 };
+}
+
+/// The entries that the header declares.
+fn declared() -> Vec<String> {
+    let header = std::fs::read_to_string(concat!(env!("CARGO_MANIFEST_DIR"), "/../../include/sheets.h")).unwrap();
+    let names = header.lines().filter_map(|line| Some(line.strip_prefix("uint64_t ")?.split_once('(')?.0.to_string()));
+    names.collect()
+}
+
+#[test]
+fn every_entry_answers_null_pointers_with_length_0() {
+    let sheet = std::fs::read(concat!(env!("CARGO_MANIFEST_DIR"), "/../../examples/strip.wkb")).unwrap();
+    let mut numbers = vec![0; sheets::NUMBERS_ROOM];
+    let length = lent::numbers(&sheet, &mut numbers).unwrap() as usize;
+    let numbers = &numbers[..length];
+    let of_blob = [&4_326_i32.to_le_bytes()[..], numbers].concat();
+    let (listed, told) = (12 << 8, 16 << 8);
+    let answers = entries! {
+        sheet_numbers() on sheet;
+        sheet_write() on numbers;
+        sheet_owner_sets() on sheet;
+        sheet_owners() on sheet;
+        sheet_boundary(1) on sheet;
+        sheet_listing() on sheet;
+        sheet_position(0) on sheet;
+        sheet_numbers_by(1) on sheet;
+        sheet_owner_sets_by(1) on sheet;
+        sheet_owners_by(1, 0) on sheet;
+        sheet_boundary_by(1, 0, 1) on sheet;
+        sheet_listing_by(1, 0) on sheet;
+        sheet_write_blob() on of_blob;
+    };
+    for (name, answers) in &answers {
+        let wanted = match *name {
+            "sheet_write" | "sheet_write_blob" => [42, 42, 40],
+            "sheet_listing" | "sheet_listing_by" => [40, listed, 40],
+            "sheet_position" => [40, told, 40],
+            _ => [1, 1, 40],
+        };
+        assert_eq!((name, answers), (name, &wanted));
+    }
+    assert_eq!(answers.iter().map(|(name, _)| name.to_string()).collect::<Vec<_>>(), declared());
+}
+
+#[test]
+fn an_empty_slice_is_answered_alike() {
+    assert_eq!(lent::numbers(&[], &mut []), Err(Refusal { code: 1, item: 0 }));
+    assert_eq!(lent::write(&[], &mut []), Err(Refusal { code: 42, item: 0 }));
+    assert_eq!(lent::listing(&[], &mut []), Err(Refusal { code: 40, item: 0 }));
+}
