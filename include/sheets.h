@@ -54,6 +54,7 @@ extern "C" {
 #define SHEETS_MODE_BLOB 2
 #define SHEETS_MODE_OLDER_BLOB 3
 #define SHEETS_WAY_PRIORITY 0
+#define SHEETS_WAY_LONGEST 1
 
 /* Free stack that a calling thread needs, in bytes. */
 #define SHEETS_STACK 655360
@@ -111,6 +112,10 @@ uint64_t sheet_position(const uint8_t *sheet, size_t sheet_len, uint32_t mode, u
    at the flags, for an envelope kind above 1. These come before the sheet is read. The envelope must be the table's frame as numbers, else 52: right
    after 12, and in sheet_numbers_by right after reading. In these modes "1 to 8" below is "50, 51, 1 to 8", and the numbers of sheet_numbers_by have the
    reference-system number before them: SHEETS_BLOB_NUMBERS_ROOM.
+
+   SHEETS_WAY_PRIORITY gives each gap region to the largest number across its sides, SHEETS_WAY_LONGEST to the number that it shares the greatest length with: the
+   lengths of the region's sides that have this number across, added up, where a side is as long as the largest whole number whose square is at most dx*dx + dy*dy. On
+   equal lengths the larger number.
 
    Any other mode is refused 57, before everything else, and any other way 54, right before 30. In the listing 57 is the only line, and 54 stands in the place
    of the lines `after`, as 30 does. */

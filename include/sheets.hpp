@@ -43,8 +43,8 @@ enum class Mode : std::uint32_t {
     OlderBlob = SHEETS_MODE_OLDER_BLOB,
 };
 
-// How gaps are filled: each goes to the largest number beside it.
-enum class Way : std::uint32_t { Priority = SHEETS_WAY_PRIORITY };
+// How gaps are filled: each goes to the largest number beside it, or to the one that it shares the longest boundary with.
+enum class Way : std::uint32_t { Priority = SHEETS_WAY_PRIORITY, Longest = SHEETS_WAY_LONGEST };
 
 // What reading comes to: the length of the numbers form in bytes, or a refusal, and for a refusal the position of the field at fault, counted in bytes from 0.
 // It is 0 where the sheet is read.

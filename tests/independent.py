@@ -13,9 +13,10 @@ def run(program, *words):
     return subprocess.run(command, env=given, check=True, stdout=subprocess.PIPE).stdout.decode("ascii")
 
 
-def answers(paths, mode=0):
-    """For each file its verdict in this mode, 'clean', 'repair', 'refused CODE ITEM' or 'refused CODE ITEM POSITION' where reading refuses, and the lines of its listing."""
-    printed = [answer.split("\n") for answer in run("answers", str(mode), *paths).split("\n\n")[:-1]]
+def answers(paths, mode=0, way=0):
+    """For each file its verdict in this mode, 'clean', 'repair', 'refused CODE ITEM' or 'refused CODE ITEM POSITION' where reading refuses, and the lines of its listing in
+    this way."""
+    printed = [answer.split("\n") for answer in run("answers", str(mode), str(way), *paths).split("\n\n")[:-1]]
     assert len(printed) == len(paths)
     return [(verdict, listing) for verdict, *listing in printed]
 

@@ -2,8 +2,8 @@
 """Faults planted in the hosts are noticed: each hosts/planted/*.edit goes into a copy, which is built, and the smallest test that is to notice it must fail.
 
     python3 tests/planted.py DIFFER CHECKER GATE FOLDER    'N passed, M failed'; FOLDER has a few sheets, one of them with more than 1,000 bytes of listing,
-                                                           one that reading refuses behind byte 1,000, and one of the older edition; and blobs of them,
-                                                           one of them refused by 52
+                                                           one that reading refuses behind byte 1,000, one of the older edition, and one whose gaps go to
+                                                           others by the longest boundary; and blobs of them, one of them refused by 52
 
 An edit is written as those of crates/*/must-fail: `file:`, and then `old:`, which stands there once, and `new:`. The copy without an edit must pass first. A text
 that isn't found, a copy that can't be built and a fault that nothing notices are failures. CHECKER and GATE are commands, built from the hosts as they are.

@@ -172,17 +172,19 @@ class Programs:
 
 # The words of a command that name a mode, by the mode's number.
 MODES = ([], ["--older"], ["--blob"], ["--older", "--blob"])
+# Those that name a way, by the way's number.
+WAYS = ([], ["--longest"])
 # What the names of sheets and of blobs end in, as a folder has them.
 ENDS = (".wkb", ".gpb")
 
 
-def sheets_of(programs, what, paths, mode=0):
-    """Both programs on sheets, whose verdicts and listings are those of the independent program in this mode."""
-    answers = independent.answers(paths, mode)
+def sheets_of(programs, what, paths, mode=0, way=0):
+    """Both programs on sheets, whose verdicts and listings are those of the independent program in this mode and way."""
+    answers = independent.answers(paths, mode, way)
     lines = [line(path, told(verdict)) for path, (verdict, _) in zip(paths, answers)]
     listed = [printed for path, (_, listing) in zip(paths, answers) for printed in [shown(path) + ":", *listing]]
     refusals_told = [said for said in lines if kind(said) == 2]
-    words = MODES[mode] + paths
+    words = MODES[mode] + WAYS[way] + paths
     outcomes = programs.same(what, words, lines)
     return lines, outcomes + [equal(what + ", listings", run(programs.checker, *words), (max(map(kind, lines)), listed, refusals_told))]
 
@@ -207,6 +209,17 @@ def in_all_modes(programs, what, folder):
     return sheets[0] + blobs[0], sheets[1] + blobs[1]
 
 
+def by_the_longest_boundary(programs, what, folder, every):
+    """The sheets in mode 0 and the blobs in mode 2 with --longest: the verdicts are those without it, and some listings are others."""
+    outcomes = []
+    for mode, end in ((0, ENDS[0]), (2, ENDS[1])):
+        paths = files_of(folder, end)
+        lines, more = sheets_of(programs, "%s, mode %d, --longest" % (what, mode), paths, mode, 1)
+        listings = (run(programs.checker, *MODES[mode], *words, *paths)[1] for words in WAYS)
+        outcomes += more + [equal("verdicts with --longest", lines, every[mode]), equal("listings with --longest differ", len(set(map(tuple, listings))), 2)]
+    return outcomes
+
+
 def contents(path):
     with open(path, "rb") as f:
         return f.read()
@@ -216,6 +229,7 @@ def generated(programs, folder):
     """The folder's sheets and blobs, named one by one and as a folder; every kind of verdict in each mode, sheets that are refused in one mode alone, every
     refusal of blobs, and the largest are among them."""
     every, outcomes = in_all_modes(programs, "generated sheets", folder)
+    outcomes += by_the_longest_boundary(programs, "generated sheets", folder, every)
     for mode, (words, lines) in enumerate(zip(MODES, every)):
         end, other = ENDS if mode < 2 else ENDS[::-1]
         passed = files_of(folder, other)
@@ -302,6 +316,17 @@ def older_edition(programs, cases):
         equal("its listing", run(programs.checker, "--older", given=sheet), (1, listing, [])),
         equal("its present listing", run(programs.checker, given=sheet), (2, ["refused 20 1"], [line("-", carried)])),
     ]
+
+
+def longest_boundary(programs, cases):
+    """The listing of a sheet made by hand whose gap goes to another polygon with --longest, wherever that word stands; its verdict is the same."""
+    path = os.path.join(cases, "a gap that shares 6 with 1 and 2 with 2 goes to 1.wkb")
+    head = ["sheet 18 2", "polygon 1 56", "polygon 2 8", "gap 2 8", "overlap 0 0", "verdict repair"]
+    outcomes = [equal("by priority", run(programs.checker, path), (1, head + ["after 1 56", "after 2 16"], []))]
+    for words in (["--longest", path], [path, "--longest"], ["--longest", "--longest", "--", path]):
+        outcomes.append(equal("by the longest boundary", run(programs.checker, *words), (1, head + ["after 1 64", "after 2 8"], [])))
+        outcomes += programs.same("its verdict", words, [line(path, "repair")])
+    return outcomes
 
 
 def blobs(programs, cases):
@@ -647,7 +672,7 @@ def main(checker, gate, folder):
     outcomes += generated(programs, folder) + examples(programs)
     with tempfile.TemporaryDirectory() as cases:
         independent.cases(cases)
-        outcomes += sentences(programs, cases) + older_edition(programs, cases) + blobs(programs, cases) + long_files(programs, cases)
+        outcomes += sentences(programs, cases) + older_edition(programs, cases) + longest_boundary(programs, cases) + blobs(programs, cases) + long_files(programs, cases)
     outcomes += any_names(programs) + irregular(programs) + folders(programs) + options(programs)
     outcomes += unwritable(programs, stored) + as_they_come(programs, stored, lines) + progress(programs.gate, stored[0])
     if len(checker.split()) == 1:  # an emulator needs memory of its own
@@ -659,5 +684,6 @@ def main(checker, gate, folder):
 if __name__ == "__main__":
     if sys.argv[1:2] == ["--sheets"]:
         *commands, where = sys.argv[2:]
-        sys.exit(tally(in_all_modes(Programs(*commands), "sheets", where)[1]))
+        every, outcomes = in_all_modes(Programs(*commands), "sheets", where)
+        sys.exit(tally(outcomes + by_the_longest_boundary(Programs(*commands), "sheets", where, every)))
     sys.exit(main(*sys.argv[1:]))

@@ -155,8 +155,8 @@ sheets::Mode mode_of(std::uint32_t number) {
 }
 
 sheets::Way way_of(std::uint32_t number) {
-    if (number > 0) std::exit(3);
-    return sheets::Way::Priority;
+    if (number > 1) std::exit(3);
+    return number == 0 ? sheets::Way::Priority : sheets::Way::Longest;
 }
 
 Value wrapped(const Asked &asked, const std::uint8_t *input, std::size_t size) {

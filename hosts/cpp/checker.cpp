@@ -61,15 +61,22 @@ std::string grouped(std::uint64_t number) {
     return digits;
 }
 
-// A sheet, and how it is read.
+// How a sheet is read, and how its gaps are filled.
+struct How {
+    Mode mode;
+    sheets::Way way;
+};
+
+// A sheet, and how it is read and its gaps are filled.
 struct Sheet {
     sheets::Bytes bytes;
     Mode mode;
+    sheets::Way way;
 };
 
 Verdict verdict(const Sheet &sheet) { return sheets::verdict_by(sheet.bytes.data(), sheet.bytes.size(), sheet.mode); }
 
-std::string listing(const Sheet &sheet) { return sheets::listing_by(sheet.bytes.data(), sheet.bytes.size(), sheet.mode, sheets::Way::Priority); }
+std::string listing(const Sheet &sheet) { return sheets::listing_by(sheet.bytes.data(), sheet.bytes.size(), sheet.mode, sheet.way); }
 
 std::uint64_t position(const Sheet &sheet) { return sheets::position_by(sheet.bytes.data(), sheet.bytes.size(), sheet.mode).byte; }
 
@@ -93,8 +100,8 @@ Status status(const Verdict &verdict) { return verdict.finding == Finding::Clean
 // What is printed for a file: its verdict line, its listing, or its name and its listing.
 enum class Print { Line, Listing, Named };
 
-Status judged(const std::string &path, Mode mode, Print print) {
-    const Sheet sheet = {files::read(path), mode};
+Status judged(const std::string &path, How how, Print print) {
+    const Sheet sheet = {files::read(path), how.mode, how.way};
     if (print == Print::Line) {
         const Verdict found = verdict(sheet);
         put(line(path, sheet, found));
@@ -107,9 +114,9 @@ Status judged(const std::string &path, Mode mode, Print print) {
     return status(found);
 }
 
-Status check(const std::string &path, Mode mode, Print print) {
+Status check(const std::string &path, How how, Print print) {
     try {
-        return judged(path, mode, print);
+        return judged(path, how, print);
     } catch (const files::Unread &reason) {
         const std::string unread = names::shown(path) + ": could not be read: " + reason.what() + '\n';
         print == Print::Line ? put(unread) : say(unread);
@@ -118,7 +125,7 @@ Status check(const std::string &path, Mode mode, Print print) {
 }
 
 // Checks the files in their order.
-int check_all(std::vector<std::string> paths, Mode mode, bool batch) {
+int check_all(std::vector<std::string> paths, How how, bool batch) {
     if (paths.empty()) paths.push_back("-");
     if (std::count(paths.begin(), paths.end(), "-") > 1) {
         say("checker: standard input can be named only once\n");
@@ -126,7 +133,7 @@ int check_all(std::vector<std::string> paths, Mode mode, bool batch) {
     }
     const Print print = batch ? Print::Line : paths.size() == 1 ? Print::Listing : Print::Named;
     int worst = Clean;
-    for (const std::string &path : paths) worst = std::max<int>(worst, check(path, mode, print));
+    for (const std::string &path : paths) worst = std::max<int>(worst, check(path, how, print));
     return worst;
 }
 
@@ -140,7 +147,8 @@ Mode mode_of(bool older, bool blob) {
 int run(const std::vector<std::string> &words) {
     try {
         const options::Asked asked = options::asked_by(words);
-        return check_all(asked.paths, mode_of(asked.older, asked.blob), asked.batch);
+        const auto way = asked.longest ? sheets::Way::Longest : sheets::Way::Priority;
+        return check_all(asked.paths, {mode_of(asked.older, asked.blob), way}, asked.batch);
     } catch (const options::Text &asked) {
         put(asked.text);
         return Clean;

@@ -13,12 +13,13 @@ namespace options {
 namespace {
 
 const char help[] =
-    "usage: checker [--batch] [--older] [--blob] [FILE..]\n"
+    "usage: checker [--batch] [--older] [--blob] [--longest] [FILE..]\n"
     "Prints the listing of each sheet file, with its name above where there are several, or of standard input where no file is named.\n"
     "The verdict line of a sheet that is refused or could not be read goes to standard error.\n"
     "  --batch      the verdict lines alone: FILE: clean, FILE: repair, FILE: refused CODE ITEM: WHY, or FILE: could not be read: WHY\n"
     "  --older      the sheets are of the older edition: rings that run the wrong way are turned\n"
     "  --blob       each file is a geometry blob of a GeoPackage table, with a sheet in it\n"
+    "  --longest    gaps go to the polygon that they share the longest boundary with, and not by priority; verdicts are the same\n"
     "  -h, --help   this text\n"
     "  --version    the version\n"
     "  --           every word behind it is a file\n"
@@ -61,6 +62,7 @@ Asked asked_by(const std::vector<std::string> &words) {
     app.add_flag("--batch", asked.batch);
     app.add_flag("--older", asked.older);
     app.add_flag("--blob", asked.blob);
+    app.add_flag("--longest", asked.longest);
     add_text(app, "-h,--help", help);
     add_text(app, "--version", version);
     try {

@@ -8,7 +8,7 @@
 namespace options {
 
 struct Asked {
-    bool batch = false, older = false, blob = false;
+    bool batch = false, older = false, blob = false, longest = false;
     std::vector<std::string> paths = {};
 };
 

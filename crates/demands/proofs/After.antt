@@ -15,7 +15,7 @@ use Rattle.lent.specs.Answered.{Written, Outcome, bytes}
 use Rattle.lent.proofs.Stages.{value-refused, chain-value, chain-refused, needing-value, needing-refused}
 use Rattle.sheet_form.specs.Numbers.{Sheet}
 use Rattle.judged.specs.Judged.{judgedSheet, repairOf}
-use Rattle.judged.proofs.Ways.{way-value, way-refused}
+use Rattle.judged.proofs.Ways.{way-value}
 use Rattle.outcomes.specs.Entries.{onSheet}
 use Rattle.demands.specs.Answers.{HasOwners, NoOwner, Repaired, KnownWay, OnSheet}
 use Rattle.demands.proofs.Repair
@@ -33,48 +33,43 @@ module _ (mode : ℕ) (s : List ℕ) (all : All (λ b. b < 256) s) (n : Sheet) (
   comes : judgedSheet mode s ≡ value (with-owners n owners)
   comes = has-owners mode s n owners .1 h
 
-  pub repaired-is : (l : List ℕ) → (repairOf 0 (with-owners n owners) ≡ value l) ↔ Repaired n owners l
-  repaired-is = Repair.one-owner mode s all (with-owners n owners) comes
+  -- What is answered after repair in a way, and when there is none.
+  module _ (way : ℕ) where
+    pub repaired-is : (l : List ℕ) → (repairOf way (with-owners n owners) ≡ value l) ↔ (KnownWay way × Repaired way n owners l)
+    repaired-is l = (
+      λ e. let known = way-value (with-owners n owners) way l e in (known, Repair.one-owner mode s all (with-owners n owners) comes way known l .0 e),
+      λ (known, p). Repair.one-owner mode s all (with-owners n owners) comes way known l .1 p,
+    )
 
-  pub unrepaired-is : (code item : ℕ) → (repairOf 0 (with-owners n owners) ≡ refused code item) ↔ ((code ≡ 30) × (item ≡ 0) × NoOwner owners)
-  unrepaired-is code item =
-      let u = Repair.unrepaired mode s all (with-owners n owners) comes code item in (
-        λ e. let (c, i, z) = u .0 e in (c, i, all-from (λ o. o ≡ []) [] owners z),
-        λ (c, i, z). u .1 (c, i, λ t l. all-at (λ o. o ≡ []) [] owners t z l),
+    pub unrepaired-is : (code item : ℕ) → (repairOf way (with-owners n owners) ≡ refused code item) ↔ (((code ≡ 54) × (item ≡ 0) × (KnownWay way → ⊥)) ⊎ ((code ≡ 30) × (item ≡ 0) × KnownWay way × NoOwner owners))
+    unrepaired-is code item =
+        let u = Repair.in-a-way mode s all (with-owners n owners) comes way code item in (
+          λ e. elim (u .0 e) [ inl (k, c, i) ↦ inl (c, i, k) | inr (k, c, i, z) ↦ inr (c, i, k, all-from (λ o. o ≡ []) [] owners z) ],
+          λ h. elim h [ inl (c, i, k) ↦ u .1 (inl (k, c, i)) | inr (c, i, k, z) ↦ u .1 (inr (k, c, i, λ t l. all-at (λ o. o ≡ []) [] owners t z l)) ],
+        )
+
+    module _ (count : List ℕ → ℕ) (f : List ℕ → List ℕ) where
+      abbrev next : List ℕ → Outcome
+      next o = bytes (count o) (f o)
+
+      pub after-answers : (item : ℕ) (l : List ℕ)
+          → (andThen (repairOf way (with-owners n owners)) (λ o. bytes (count o) (f o)) ≡ bytes item l) ↔ (KnownWay way × (o : List ℕ) × Repaired way n owners o × (l ≡ f o) × (item ≡ count o))
+      after-answers item l = (
+        λ e.
+            let (o, p, q) = chain-value (repairOf way (with-owners n owners)) next (record { item = item; text = l }) .0 e in
+            let (k, r) = repaired-is o .0 p in
+            let (a, b) = same-answer (count o) item (f o) l .0 q in
+            (k, o, r, a, b),
+        λ (k, o, p, a, b). chain-value (repairOf way (with-owners n owners)) next (record { item = item; text = l }) .1 (o, repaired-is o .1 (k, p), same-answer (count o) item (f o) l .1 (a, b)),
       )
 
-  -- What is answered after repair in a way, and when there is none.
-  module _ (way : ℕ) (count : List ℕ → ℕ) (f : List ℕ → List ℕ) where
-    abbrev next : List ℕ → Outcome
-    next o = bytes (count o) (f o)
-
-    pub after-answers : (item : ℕ) (l : List ℕ)
-        → (andThen (repairOf way (with-owners n owners)) (λ o. bytes (count o) (f o)) ≡ bytes item l) ↔ (KnownWay way × (o : List ℕ) × Repaired n owners o × (l ≡ f o) × (item ≡ count o))
-    after-answers item l = (
-      λ e.
-          let (o, p, q) = chain-value (repairOf way (with-owners n owners)) next (record { item = item; text = l }) .0 e in
-          let (k, r) = way-value (with-owners n owners) way o .0 p in
-          let (a, b) = same-answer (count o) item (f o) l .0 q in
-          (k, o, repaired-is o .0 r, a, b),
-      λ (k, o, p, a, b).
-          chain-value (repairOf way (with-owners n owners)) next (record { item = item; text = l }) .1 (o, way-value (with-owners n owners) way o .1 (k, repaired-is o .1 p), same-answer (count o) item (f o) l .1 (a, b)),
-    )
-
-    pub after-refuses : (code item : ℕ)
-        → (andThen (repairOf way (with-owners n owners)) (λ o. bytes (count o) (f o)) ≡ refused code item)
-        ↔ (((code ≡ 54) × (item ≡ 0) × (KnownWay way → ⊥)) ⊎ ((code ≡ 30) × (item ≡ 0) × KnownWay way × NoOwner owners))
-    after-refuses code item = (
-      λ e. told (way-refused (with-owners n owners) way code item .0 (elim (chain-refused (repairOf way (with-owners n owners)) next code item .0 e) [ inl p ↦ p | inr (o, p, q) ↦ absurd (value-refused _ code item q) ])),
-      λ h. chain-refused (repairOf way (with-owners n owners)) next code item .1 (inl (way-refused (with-owners n owners) way code item .1 (tell h))),
-    )
-      where
-        told : ((way ≡ 0 → ⊥) × (code ≡ 54) × (item ≡ 0)) ⊎ ((way ≡ 0) × (repairOf 0 (with-owners n owners) ≡ refused code item)) → ((code ≡ 54) × (item ≡ 0) × (KnownWay way → ⊥)) ⊎ ((code ≡ 30) × (item ≡ 0) × KnownWay way × NoOwner owners)
-        told (inl (k, c, i)) = inl (c, i, k)
-        told (inr (k, r)) = let (c, i, z) = unrepaired-is code item .0 r in inr (c, i, k, z)
-
-        tell : ((code ≡ 54) × (item ≡ 0) × (KnownWay way → ⊥)) ⊎ ((code ≡ 30) × (item ≡ 0) × KnownWay way × NoOwner owners) → ((way ≡ 0 → ⊥) × (code ≡ 54) × (item ≡ 0)) ⊎ ((way ≡ 0) × (repairOf 0 (with-owners n owners) ≡ refused code item))
-        tell (inl (c, i, k)) = inl (k, c, i)
-        tell (inr (c, i, k, z)) = inr (k, unrepaired-is code item .1 (c, i, z))
+      pub after-refuses : (code item : ℕ)
+          → (andThen (repairOf way (with-owners n owners)) (λ o. bytes (count o) (f o)) ≡ refused code item)
+          ↔ (((code ≡ 54) × (item ≡ 0) × (KnownWay way → ⊥)) ⊎ ((code ≡ 30) × (item ≡ 0) × KnownWay way × NoOwner owners))
+      after-refuses code item = (
+        λ e. unrepaired-is code item .0 (elim (chain-refused (repairOf way (with-owners n owners)) next code item .0 e) [ inl p ↦ p | inr (o, p, q) ↦ absurd (value-refused _ code item q) ]),
+        λ h. chain-refused (repairOf way (with-owners n owners)) next code item .1 (inl (unrepaired-is code item .1 h)),
+      )
 
 -- ---- the polygon that is asked for
 asked : (n : Sheet) (k : ℕ) → T (onSheet k n) ↔ OnSheet n k

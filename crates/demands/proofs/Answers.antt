@@ -44,7 +44,7 @@ module _ (mode : ℕ) (s : List ℕ) (all : All (λ b. b < 256) s) (n : Sheet) (
   then-sides u = andThen (repairOf way (with-owners n sets)) (λ o. sidesAfter (ownedSides n k o))
 
   boundary-answers-by : (item : ℕ) (l : List ℕ)
-      → (goesOn way (Boundary k) (with-owners n sets) ≡ bytes item l) ↔ (OnSheet n k × KnownWay way × (o : List ℕ) × Repaired n sets o × (l ≡ flatMap sideBytes (ownedSides n k o)) × (item ≡ length (ownedSides n k o)))
+      → (goesOn way (Boundary k) (with-owners n sets) ≡ bytes item l) ↔ (OnSheet n k × KnownWay way × (o : List ℕ) × Repaired way n sets o × (l ≡ flatMap sideBytes (ownedSides n k o)) × (item ≡ length (ownedSides n k o)))
   boundary-answers-by item l =
       let w : Written = record { item = item; text = l } in
       let after = after-answers mode s all n sets h way (λ o. length (ownedSides n k o)) (λ o. flatMap sideBytes (ownedSides n k o)) item l in (
@@ -229,9 +229,9 @@ module _ (mode : ℕ) (s : List ℕ) (all : All (λ b. b < 256) s) where
   -- "The owner entry writes one byte per triangle in table order, its number after repair"; the item is the number of triangles. It answers exactly
   -- if the bytes have owners and some triangle has one, and then the one owner of each,
   pub owners-answers : (way item : ℕ) (l : List ℕ)
-      → (outcomeOf (owners mode way) s ≡ bytes item l) ↔ ((n : Sheet) × (sets : List (List ℕ)) × HasOwners mode s n sets × KnownWay way × Repaired n sets l × (item ≡ length (n .table)))
+      → (outcomeOf (owners mode way) s ≡ bytes item l) ↔ ((n : Sheet) × (sets : List (List ℕ)) × HasOwners mode s n sets × KnownWay way × Repaired way n sets l × (item ≡ length (n .table)))
   owners-answers way item l = Iff·trans (answers-on mode s (goesOn way Owners) (record { item = item; text = l })) (
-    λ (n, sets, h, e). let (known, o, p, f, i) = after-answers mode s all n sets h way length (λ o. o) item l .0 e in (n, sets, h, known, subst (Repaired n sets) (sym f) p, i ∙ p .0 .each ∙ owners-each h),
+    λ (n, sets, h, e). let (known, o, p, f, i) = after-answers mode s all n sets h way length (λ o. o) item l .0 e in (n, sets, h, known, subst (Repaired way n sets) (sym f) p, i ∙ p .0 .each ∙ owners-each h),
     λ (n, sets, h, known, p, i). (n, sets, h, after-answers mode s all n sets h way length (λ o. o) item l .1 (known, l, p, refl, i ∙ sym (p .0 .each ∙ owners-each h))),
   )
 
@@ -253,7 +253,7 @@ module _ (mode : ℕ) (s : List ℕ) (all : All (λ b. b < 256) s) where
   -- triangle has an owner,
   pub boundary-answers : (way k item : ℕ) (l : List ℕ)
       → (outcomeOf (boundary mode way k) s ≡ bytes item l) ↔ ((n : Sheet) × (sets : List (List ℕ)) × HasOwners mode s n sets × OnSheet n k × KnownWay way
-      × (o : List ℕ) × Repaired n sets o × (l ≡ flatMap sideBytes (ownedSides n k o)) × (item ≡ length (ownedSides n k o)))
+      × (o : List ℕ) × Repaired way n sets o × (l ≡ flatMap sideBytes (ownedSides n k o)) × (item ≡ length (ownedSides n k o)))
   boundary-answers way k item l = Iff·trans (answers-on mode s (goesOn way (Boundary k)) (record { item = item; text = l })) (
     λ (n, sets, h, e). let (on, known, o, p, f, i) = boundary-answers-by mode s all n sets h way k item l .0 e in (n, sets, h, on, known, o, p, f, i),
     λ (n, sets, h, on, known, o, p, f, i). (n, sets, h, boundary-answers-by mode s all n sets h way k item l .1 (on, known, o, p, f, i)),

@@ -7,12 +7,13 @@ use Prim.Native.Nat.{ℕ, _-_, _^_, _≤_, _<_}
 use lib.ListN.{length, getD}
 use Rattle.whole.specs.Sums.{All}
 use Rattle.plane.specs.Boundaries.{sidesOf}
+use Rattle.plane_lengths.specs.Lengths.{lengthsOf}
 use Rattle.lent.specs.Stages.{value, refused}
 use Rattle.table.specs.Table.{frameEdges, RuleA, RuleB, RuleC}
 use Rattle.table.specs.Opposites.{opposites}
 use Rattle.owners_marks.specs.Marks.{ownersFrom}
 use Rattle.owners.specs.Judging.{Groundless, AreaOfOwnership}
-use Rattle.repair.specs.OneOwner.{OneOwner, LargestThere}
+use Rattle.repair.specs.OneOwner.{OneOwner, ChosenThere}
 use Rattle.sheet_form.specs.Numbers.{Sheet, members}
 use Rattle.sheet_envelope.specs.declared.Envelope.{Envelope}
 use Rattle.sheet_envelope.specs.declared.Optional.the-variants.{Present}
@@ -68,13 +69,13 @@ pub data Refused (mode : ℕ) (s : List ℕ) : ℕ → ℕ → Type 0 where
 abbrev pub NoOwner : List (List ℕ) → Type 0
 NoOwner owners = All (λ o. o ≡ []) owners
 
--- The owner numbers of the triangles after repair, one for each: OneOwner says how each is found, LargestThere which number a gap region goes to.
-abbrev pub Repaired : Sheet → List (List ℕ) → List ℕ → Type 0
-Repaired n owners l = OneOwner (opposites (sidesOf (n .table))) owners l × LargestThere (opposites (sidesOf (n .table))) owners l
+-- The owner numbers of the triangles after repair in a way, one for each: OneOwner says how each is found, ChosenThere which number a gap region goes to.
+abbrev pub Repaired : ℕ → Sheet → List (List ℕ) → List ℕ → Type 0
+Repaired way n owners l = OneOwner (opposites (sidesOf (n .table))) owners l × ChosenThere way (lengthsOf (n .table)) (opposites (sidesOf (n .table))) owners l
 
--- The way to fill gaps is known: it is 0, document 01's.
+-- The way to fill gaps is known: it is 0, document 01's, or 1, the longest shared boundary.
 abbrev pub KnownWay : ℕ → Type 0
-KnownWay way = way ≡ 0
+KnownWay way = way ≤ 1
 
 -- The polygon of the number is on the sheet.
 abbrev pub OnSheet : Sheet → ℕ → Type 0

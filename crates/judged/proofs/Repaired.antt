@@ -9,18 +9,21 @@ use mathlib.Core.List.{List, [], _∷_}
 use Prim.Native.Nat.{ℕ, _+_, _*_, _≤_, _<_}
 use native.Mathlib.Omega.{arith}
 use lib.IntN.{pos}
-use lib.ListN.{length}
+use lib.ListN.{length, length-map}
 use lib.Signed.{_≤ℤ_}
 use Rattle.whole.specs.Sums.{All, Among, count, sum}
 use Rattle.whole.proofs.Sums.{all-map}
 use Rattle.plane.specs.Points.{Edge, Triangle, sameEdge, double}
 use Rattle.plane.specs.Boundaries.{boundary, sidesOf}
 use Rattle.plane.specs.Members.{Member, doubleArea}
+use Rattle.plane_lengths.specs.Lengths.{lengthOf, lengthsOf}
+use Rattle.plane_lengths.proofs.Lengths.{sides-some}
 use Rattle.lent.specs.Stages.{value, refused}
 use Rattle.table.specs.Table.{corners, frameOf, rectangle, frameEdges, RuleA, RuleB, RuleC}
 use Rattle.table.specs.Sides.{trianglesOf}
 use Rattle.table.specs.Opposites.{opposites}
 use Rattle.table.proofs.Rules.{passes}
+use Rattle.table.proofs.Shares.{length-sides, length-opposites}
 use Rattle.owners_marks.specs.Marks.{ownersFrom}
 use Rattle.owners_marks.specs.Listed.{OwnersListed}
 use Rattle.owners_marks.proofs.Owners.{length-owners-from, owners-numbers, owners-listed}
@@ -28,10 +31,12 @@ use Rattle.owners.specs.Owners.{judgePolygons}
 use Rattle.owners.proofs.Polygons.{EachCarried, all-carried, marks-fit, OwnersAre, owners-are}
 use Rattle.repair_regions.specs.Regions.{from}
 use Rattle.repair_regions.specs.Spreading.{Paired}
-use Rattle.repair.specs.Repair.{largest}
-use Rattle.repair.specs.OneOwner.{ownersAt, OneOwner, LargestThere}
-use Rattle.repair.proofs.Largest.{largest-chooses}
-use Rattle.repair.proofs.OneOwner.{Connects, paired, connects, refused-by, no-owner, not-given, none-alone, repaired-length, repaired-exactly}
+use Rattle.repair_choices.specs.Choices.{Choice, choiceBy}
+use Rattle.repair_choices.specs.Choosing.{Chooses}
+use Rattle.repair_choices.proofs.Ways.{way-chooses}
+use Rattle.repair.specs.Repair.{repaired}
+use Rattle.repair.specs.OneOwner.{ownersAt, FoundFor, OneOwner, sharedWith, ChosenThere}
+use Rattle.repair.proofs.OneOwner.{Connects, paired, connects, refused-by, no-owner, not-given, none-alone, repaired-exactly, found-shared, way-tells}
 use Rattle.repair.proofs.Kept.{owners-kept}
 use Rattle.repair_sides.specs.Sides.{boundarySides, trianglesOwned}
 use Rattle.repair_sides.proofs.Bounding.{sides-are-boundary as are-boundary, sides-once as each-once, at-most-one as none-above, owned-once, frame-after}
@@ -41,6 +46,7 @@ use Rattle.sheet_edges.proofs.Triangles.{held-keys}
 use Rattle.judged.specs.Judged.{Judged, repairOf}
 use Rattle.judged.specs.Held.{judgeSheet}
 use Rattle.judged.proofs.Stages.{polygons-value, sheet-value}
+use Rattle.judged.proofs.Ways.{known-way, way-value}
 
 -- What owners come from: the marks of each polygon.
 pub record Made (table : List Triangle) (ms : List Member) (owners : List (List ℕ)) : Type 0 where
@@ -120,36 +126,58 @@ module _ {j : Judged} (e : judgeSheet (j .sheet) ≡ value j) where
         subst (Connects opposite) (sym owners-many)
         (subst (λ t. RuleB t → RuleA t → RuleC (frameEdges t) t → Connects (opposites (sidesOf t)) (length table)) (keyed .2) (connects (keyed .0) (length table) (keyed .1)) (rules .1) (rules .0) (rules .2))
 
-    -- Repair has no answer exactly if no triangle has an owner: 30, item 0, is its only refusal.
-    pub unrepaired : (code item : ℕ) → (repairOf 0 j ≡ refused code item) ↔ ((code ≡ 30) × (item ≡ 0) × ((t : ℕ) → t < length (j .owners) → ownersAt (j .owners) t ≡ []))
-    unrepaired code item = (to, from)
-      where
-        none : (repairOf 0 j ≡ refused 30 0) ↔ ((t : ℕ) → t < length (j .owners) → ownersAt (j .owners) t ≡ [])
-        none = no-owner (largest opposite) opposite (j .owners) listed
+    -- ---- in a known way
+    module _ (way : ℕ) (known : way ≤ 1) where
+      abbrev choice : Choice
+      choice = choiceBy way (lengthsOf table) opposite
 
-        from : (code ≡ 30) × (item ≡ 0) × ((t : ℕ) → t < length (j .owners) → ownersAt (j .owners) t ≡ []) → repairOf 0 j ≡ refused code item
-        from (c, i, n) = none .1 n ∙ (λ k. refused (sym c k) (sym i k))
+      chooses : Chooses opposite choice
+      chooses = way-chooses way (lengthsOf table) opposite
 
-        to : repairOf 0 j ≡ refused code item → (code ≡ 30) × (item ≡ 0) × ((t : ℕ) → t < length (j .owners) → ownersAt (j .owners) t ≡ [])
-        to r = elim (refused-by (largest opposite) opposite (j .owners) code item r) [
-          | inl (c, i) ↦ (c, i, none .0 (r ∙ (λ k. refused (c k) (i k))))
-          | inr c ↦
-              let alone = not-given (largest opposite) opposite (j .owners) listed (largest-chooses opposite) pairs-up item .0 (r ∙ (λ k. refused (c k) item)) in
-              absurd (none-alone (largest opposite) opposite (j .owners) listed (largest-chooses opposite) pairs-up joins-up (alone .some-owner) (alone .at) (alone .within) (alone .alone))
-        ]
+      -- Repair has no answer exactly if no triangle has an owner: 30, item 0, is its only refusal.
+      pub unrepaired : (code item : ℕ) → (repairOf way j ≡ refused code item) ↔ ((code ≡ 30) × (item ≡ 0) × ((t : ℕ) → t < length (j .owners) → ownersAt (j .owners) t ≡ []))
+      unrepaired code item = (to, from)
+        where
+          none : (repaired choice opposite (j .owners) ≡ refused 30 0) ↔ ((t : ℕ) → t < length (j .owners) → ownersAt (j .owners) t ≡ [])
+          none = no-owner choice opposite (j .owners) listed
 
-    -- Its answer o gives each triangle exactly one owner, as laid down, and no other list does.
-    pub repaired-is : (o : List ℕ) → (repairOf 0 j ≡ value o) ↔ (OneOwner (opposites (sidesOf (j .sheet .table))) (j .owners) o × LargestThere (opposites (sidesOf (j .sheet .table))) (j .owners) o)
-    repaired-is o = repaired-exactly opposite (j .owners) listed pairs-up joins-up (omega (arith, owners-many, h .some)) o
+          from : (code ≡ 30) × (item ≡ 0) × ((t : ℕ) → t < length (j .owners) → ownersAt (j .owners) t ≡ []) → repairOf way j ≡ refused code item
+          from (c, i, n) = known-way j way known ∙ none .1 n ∙ (λ k. refused (sym c k) (sym i k))
 
-    module _ (o : List ℕ) (r : repairOf 0 j ≡ value o) where
+          to : repairOf way j ≡ refused code item → (code ≡ 30) × (item ≡ 0) × ((t : ℕ) → t < length (j .owners) → ownersAt (j .owners) t ≡ [])
+          to e =
+              let r = sym (known-way j way known) ∙ e in
+              elim (refused-by choice opposite (j .owners) code item r) [
+                | inl (c, i) ↦ (c, i, none .0 (r ∙ (λ k. refused (c k) (i k))))
+                | inr c ↦
+                    let alone = not-given choice opposite (j .owners) listed chooses pairs-up item .0 (r ∙ (λ k. refused (c k) item)) in
+                    absurd (none-alone choice opposite (j .owners) listed chooses pairs-up joins-up (alone .some-owner) (alone .at) (alone .within) (alone .alone))
+              ]
+
+      -- Its answer o gives each triangle exactly one owner, as laid down, and no other list does.
+      pub repaired-is : (o : List ℕ) → (repairOf way j ≡ value o)
+          ↔ (OneOwner (opposites (sidesOf (j .sheet .table))) (j .owners) o × ChosenThere way (lengthsOf (j .sheet .table)) (opposites (sidesOf (j .sheet .table))) (j .owners) o)
+      repaired-is o =
+          subst (λ a. (a ≡ value o) ↔ (OneOwner opposite (j .owners) o × ChosenThere way (lengthsOf table) opposite (j .owners) o)) (sym (known-way j way known))
+          (repaired-exactly opposite (j .owners) choice (ChosenThere way (lengthsOf table) opposite (j .owners)) (way-tells opposite (j .owners) listed pairs-up (lengthsOf table) way) chooses listed pairs-up joins-up (omega (arith, owners-many, h .some)) o)
+
+    module _ (way : ℕ) (o : List ℕ) (r : repairOf way j ≡ value o) where
+      one-owner : OneOwner opposite (j .owners) o
+      one-owner = repaired-is way (way-value j way o r) o .0 r .0
+
       -- There is a number for each triangle, and it is that of one of the sheet's polygons.
       pub after-many : length o ≡ length (j .sheet .table)
-      after-many = repaired-length (largest opposite) opposite (j .owners) o r ∙ owners-many
+      after-many = one-owner .each ∙ owners-many
 
       pub after-polygons : All (λ k. (1 ≤ k) × (k ≤ length (j .sheet .polygons))) o
-      after-polygons = owners-kept opposite (j .owners) o (repaired-is o .0 r .0) (λ k. (1 ≤ k) × (k ≤ length (j .sheet .polygons))) of-polygons
+      after-polygons = owners-kept opposite (j .owners) o one-owner (λ k. (1 ≤ k) × (k ≤ length (j .sheet .polygons))) of-polygons
 
       -- The double areas of the polygons' triangles add up to the frame's.
       pub areas-balance : sum (λ p. sum double (trianglesOwned (j .sheet .table) o p)) (from 1 (length (j .sheet .polygons))) ≡ doubleArea ((rectangle (frameOf (corners (j .sheet .table))) ∷ []) ∷ [])
       areas-balance = frame-after table o (length (j .sheet .polygons)) after-many after-polygons (rules .2)
+
+    -- A number found across a gap region has a shared length of 1 at least: each side is at least 1 long.
+    pub touching-long : (t m : ℕ) → t < length (j .owners) → FoundFor (opposites (sidesOf (j .sheet .table))) (j .owners) t m → 1 ≤ sharedWith (lengthsOf (j .sheet .table)) (opposites (sidesOf (j .sheet .table))) (j .owners) t m
+    touching-long =
+        let many = length-map (sidesOf table) lengthOf ∙ sym (subst (λ t. length (opposites (sidesOf t)) ≡ length (sidesOf t)) (keyed .2) (length-opposites (keyed .0) (length table) (keyed .1) ∙ sym (length-sides (keyed .0) (length table) (keyed .1)))) in
+        found-shared opposite (j .owners) listed pairs-up (lengthsOf table) many (sides-some table (rules .0))

@@ -3,6 +3,7 @@ use mathlib.Core.Bool.{Bool}
 use mathlib.Core.List.{List}
 use Prim.Native.Nat.{ℕ}
 use Rattle.plane.specs.Boundaries.{sidesOf}
+use Rattle.plane_lengths.specs.Lengths.{lengthsOf}
 use Rattle.lent.specs.Stages.{Answer, value, andThen, needing}
 use Rattle.table.specs.Table.{frameEdges, checkTable}
 use Rattle.table.specs.Opposites.{opposites}
@@ -39,4 +40,4 @@ judgedSheet mode s = andThen (readBy members mode s) (λ n. judgeFramed (framed 
 
 -- The repair of a judged sheet in a way.
 abbrev pub repairOf : ℕ → Judged → Answer (List ℕ)
-repairOf way j = repairedBy way (opposites (sidesOf (j .sheet .table))) (j .owners)
+repairOf way j = repairedBy way (lengthsOf (j .sheet .table)) (opposites (sidesOf (j .sheet .table))) (j .owners)

@@ -12,9 +12,9 @@ use Rattle.plane.specs.Points.{double}
 use Rattle.table.specs.Sets.{chosen}
 use Rattle.owners_marks.specs.Marks.{standingBy}
 use Rattle.owners_marks.specs.Sets.{ownersOf}
+use Rattle.repair_longest.specs.Held.{lengthsHeld}
 use Rattle.repair.specs.declared.Repaired.{Repaired}
 use Rattle.repair.specs.declared.Repaired.the-variants.{Done, Refused}
-use Rattle.repair.specs.Ways.{repairedBy}
 use Rattle.repair.specs.Giving.{RepairedBy, repairOf as answerOf}
 use Rattle.listing_figures.specs.declared.Figure.{Figure}
 use Rattle.listing_figures.specs.declared.Figure.the-variants.{Gaps, Overlaps}
@@ -23,7 +23,7 @@ use Rattle.listing_figures.specs.Standings.{isGap, isOverlap}
 use Rattle.judged.specs.Judged.{Judged, repairOf}
 use Rattle.judged.specs.Held.{JudgedHeld}
 use Rattle.judged.proofs.Repaired.{owners-many}
-use Rattle.judged.proofs.Standing.{few, sets-many}
+use Rattle.judged.proofs.Standing.{few, sets-many, repair-held}
 use Rattle.lent_text.specs.Text.{lineOf}
 use Rattle.listing_lines.specs.Lines.{sheetWord, polygonWord, gapWord, overlapWord, afterWord, cleanLine, repairLine, numbered}
 use Rattle.listing_lines.specs.Printing.{Figures, lineBy, verdictBy, headBy, afterBy, linesBy}
@@ -72,6 +72,6 @@ module _ {j : Judged} {numbers opposite sets : List ℕ} (w : JudgedHeld j numbe
   after-is way (Refused code item) e = ap (afterLines (j .sheet)) e
 
   -- The lines by the figures, and by what repair came to, are the listing.
-  pub listing-is : {lent : List ℕ} (way : ℕ) (done : Repaired) → RepairedBy way opposite (map ownersOf sets) lent done owners
+  pub listing-is : {lent : List ℕ} (way : ℕ) (done : Repaired) → RepairedBy way (lengthsHeld numbers (length opposite)) opposite (map ownersOf sets) lent done owners
       → linesBy done (length (j .sheet .polygons)) sets owners areas ≡ listingOf way j
-  listing-is way done r = ap₂ _++_ head-is (after-is way done (r .answer ∙ ap₂ (repairedBy way) (w .crossed) (w .owners-are)))
+  listing-is way done r = ap₂ _++_ head-is (after-is way done (r .answer ∙ repair-held w way))

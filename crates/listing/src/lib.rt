@@ -32,7 +32,7 @@ fn put_judged(way: u32, numbers: &[u32], opposite: &[usize], sets: &[u64], text:
     let mut areas = [0u64; 1024];
     let mut owners = [0u8; 1024];
     lay_areas(numbers, &mut areas[..n]);
-    let done = repair::repair(way, opposite, sets, &mut owners[..n]);
+    let done = repair::repair(way, numbers, opposite, sets, &mut owners[..n]);
     listing_lines::put_lines(text, done, polygons, sets, &owners[..n], &areas[..n])
 }
 

@@ -15,12 +15,14 @@ use Rattle.lent.specs.Answered.{Outcome, bytes}
 use Rattle.lent_sets.specs.Sets.{setsOutcome}
 use Rattle.table.specs.Opposites.{opposites}
 use Rattle.owners_marks.specs.Sets.{ownersOf}
+use Rattle.repair_longest.specs.Held.{lengthsHeld}
 use Rattle.repair_sides.specs.Numbered.{boundaryNumbers}
+use Rattle.repair_answers.specs.Answers.{numbersAfter}
 use Rattle.repair_answers.specs.Held.{ownersOutcome, sidesHeld, sidesOutcome}
 use Rattle.judged.specs.Judged.{Judged, judgedSheet, repairOf}
 use Rattle.judged.specs.Held.{JudgedHeld}
 use Rattle.judged.proofs.Repaired.{rules, after-many}
-use Rattle.judged.proofs.Ways.{way-value}
+use Rattle.judged.proofs.Standing.{repair-held}
 use Rattle.judged.proofs.Sides.{sides-held, sides-as-many}
 use Rattle.outcomes.specs.declared.Wanted.the-variants.{OwnerSets, Owners, Boundary}
 use Rattle.listing.specs.Listing.{listing}
@@ -35,8 +37,8 @@ module _ {j : Judged} {numbers opposite sets : List ℕ} (w : JudgedHeld j numbe
   pub owner-sets-on : setsOutcome sets ≡ goesOn way OwnerSets j
   owner-sets-on = ap setsOutcome (w .sets-are)
 
-  pub owners-on : ownersOutcome way opposite (map ownersOf sets) ≡ goesOn way Owners j
-  owners-on = ap₂ (ownersOutcome way) (w .crossed) (w .owners-are)
+  pub owners-on : ownersOutcome way (lengthsHeld numbers (length opposite)) opposite (map ownersOf sets) ≡ goesOn way Owners j
+  owners-on = ap (λ a. andThen a numbersAfter) (repair-held w way)
 
   module _ (polygon : ℕ) where
     -- 41 for 0 and for every number past the last.
@@ -53,12 +55,12 @@ module _ {j : Judged} {numbers opposite sets : List ℕ} (w : JudgedHeld j numbe
     sides-same : (owners : List ℕ) → repairOf way j ≡ value owners → sidesHeld numbers (boundaryNumbers (opposites (sidesOf (j .sheet .table))) owners polygon) ≡ sidesAfter (ownedSides (j .sheet) polygon owners)
     sides-same owners e =
         let once = rules (w .comes) .1 in
-        let many = after-many (w .comes) (w .held) owners (way-value j way owners .0 e .1) in
+        let many = after-many (w .comes) (w .held) way owners e in
         sym (ap₂ bytes (sides-as-many (w .held) once owners many polygon) (sides-held (w .size) numbers (w .held) once owners many polygon))
 
-    pub boundary-on : 1 ≤ polygon → polygon ≤ length (j .sheet .polygons) → sidesOutcome numbers way opposite (map ownersOf sets) polygon ≡ goesOn way (Boundary polygon) j
+    pub boundary-on : 1 ≤ polygon → polygon ≤ length (j .sheet .polygons) → sidesOutcome numbers way (lengthsHeld numbers (length opposite)) opposite (map ownersOf sets) polygon ≡ goesOn way (Boundary polygon) j
     boundary-on low high =
-        ap₂ (λ o l. sidesOutcome numbers way o l polygon) (w .crossed) (w .owners-are)
+        ap₂ (λ a o. andThen a (λ l. sidesHeld numbers (boundaryNumbers o l polygon))) (repair-held w way) (w .crossed)
         ∙ on-same (λ owners. sidesHeld numbers (boundaryNumbers (opposites (sidesOf (j .sheet .table))) owners polygon)) (λ owners. sidesAfter (ownedSides (j .sheet) polygon owners)) (repairOf way j) sides-same
         ∙ sym (ap (λ b. andThen (needing b 41 0) sides-on) (ap₂ _&&_ (le-leb 1 polygon low) (le-leb polygon (length (j .sheet .polygons)) high)))
 

@@ -12,9 +12,10 @@ use Rattle.whole.specs.Sums.{All}
 use Rattle.owners_marks.specs.Marks.{standingBy}
 use Rattle.owners_marks.specs.Sets.{ownersOf, standingOf}
 use Rattle.owners_marks.proofs.Bits.{owners-small}
-use Rattle.repair.specs.Repair.{settledBy, settled, greater, beyond}
+use Rattle.repair_choices.specs.Choices.{greater, beyond}
+use Rattle.repair_choices.proofs.Lists.{greater-left, greater-right}
+use Rattle.repair.specs.Repair.{settledBy, settled}
 use Rattle.repair.specs.Giving.{Filled}
-use Rattle.repair.proofs.Largest.{greater-left, greater-right}
 
 -- What holds of the places before t and of t holds of the places before t + 1.
 pub one-further : (P : ℕ → Type 0) (t : ℕ) → ((i : ℕ) → i < t → P i) → P t → (i : ℕ) → i < t + 1 → P i
@@ -44,6 +45,12 @@ settled-small set = go (ownersOf set) (owners-small set)
     go [] h = omega arith
     go (k ∷ []) h = h .0
     go (k ∷ j ∷ l) h = h .0
+
+-- So are all settled numbers.
+pub all-small : (sets : List ℕ) → All (λ x. x ≤ 64) (settled (map ownersOf sets))
+unfolding standingOf
+all-small [] = tt
+all-small (s ∷ l) = (settled-small s, all-small l)
 
 -- ---- a group given to one owner
 pub filled-none : (group : List ℕ) (first owner : ℕ) (owners : List ℕ) → Filled group first first owner owners owners

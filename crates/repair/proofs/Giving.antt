@@ -19,20 +19,18 @@ use Rattle.table.specs.Sides.{itemOf}
 use Rattle.owners_marks.specs.Sets.{ownersOf}
 use Rattle.repair_regions.specs.Regions.{gap, region, Joined, self, step}
 use Rattle.repair_regions.specs.Spreading.{Paired, marked, Meeting, Grown, Fresh, Spread}
-use Rattle.repair_regions.proofs.Regions.{length-map-from, map-from-at, joined-sym, region-has, region-same, not-both}
-use Rattle.repair_regions.proofs.Spreading.{in-table, in-region}
+use Rattle.repair_regions.proofs.Regions.{length-map-from, map-from-at, joined-sym, region-has, region-same, not-both, failed}
+use Rattle.repair_regions.proofs.Spreading.{in-region}
+use Rattle.repair_choices.specs.Choices.{Choice, greater, across, largest}
+use Rattle.repair_choices.specs.Choosing.{FoundAcross}
+use Rattle.repair_choices.specs.Adding.{Marked}
+use Rattle.repair_choices.proofs.Lists.{greater-left, greater-right, greater-one}
+use Rattle.repair_choices.proofs.Largest.{largest-above, largest-found}
 use Rattle.repair.specs.declared.Repaired.the-variants.{Done, Refused}
-use Rattle.repair.specs.Repair.{settled, Choice, greater, beyond, largest, ownerOf, numbersGiven, ungiven, repaired}
-use Rattle.repair.specs.Choosing.{FoundAcross}
+use Rattle.repair.specs.Repair.{settled, ownerOf, numbersGiven, ungiven, repaired}
 use Rattle.repair.specs.Giving.{Best, Filled, State, Further, ownersLeft, RepairedTo}
-use Rattle.repair.proofs.Largest.{greater-left, greater-right, greater-one, largest-above, largest-found}
 use Rattle.repair.proofs.Filling.{one-further}
 use Rattle.repair.proofs.OneOwner.{length-settled, every-zero, every-not, NoZero, FirstZero, zero-from, same-first, answer, repaired-by}
-
--- A test that is not passed.
-failed : (b : Bool) → (b ≡ true → ⊥) → b ≡ false
-failed true h = absurd (h refl)
-failed false h = refl
 
 -- ---- no owner at all
 -- All are 0,
@@ -74,10 +72,6 @@ of-greater P m n p q = go (greater-one m n)
 
 pub best-none : (opposite numbers group : List ℕ) (first : ℕ) → Best opposite numbers group first first 0
 best-none opposite numbers group first = record { above = λ j k p q. absurd (omega arith); found = inl refl }
-
--- The number across side k.
-abbrev across : List ℕ → List ℕ → ℕ → ℕ
-across opposite numbers k = beyond opposite numbers (getD opposite k 0)
 
 -- The greatest of the numbers across the sides of triangle u and one at hand.
 abbrev with-sides : List ℕ → List ℕ → ℕ → ℕ → ℕ
@@ -139,6 +133,21 @@ best-one {opposite} {numbers} {group} {first} {i} {r} b f = record {
 pub best-to : {opposite numbers group : List ℕ} {first i n r : ℕ} → i ≡ n → Best opposite numbers group first i r → Best opposite numbers group first n r
 best-to {opposite} {numbers} {group} {first} {i} {n} {r} e b = subst (λ x. Best opposite numbers group first x r) e b
 
+-- The largest number across the sides of the triangles of a group is that of their marks.
+pub best-largest : {opposite numbers group : List ℕ} {first n r : ℕ} {marks : List Bool} → length opposite ≡ 3 * length numbers → ((j : ℕ) → j < n → getD group j 0 < length numbers)
+    → Marked group first n marks → Best opposite numbers group first n r → r ≡ largest opposite numbers marks
+best-largest {opposite} {numbers} {group} {first} {n} {r} {marks} three within is best = omega (arith, low (best .found), high (largest-found opposite numbers marks))
+  where
+    low : Found opposite numbers group first n r → r ≤ largest opposite numbers marks
+    low (inl z) = omega arith
+    low (inr (j, k, p, q, e, s)) =
+        let h : k < length opposite = omega (arith, within j q, e, three) in
+        omega (arith, largest-above opposite numbers marks k h (subst (λ u. getD marks u false ≡ true) (sym e) (is .own j p q)), s)
+
+    high : FoundAcross opposite numbers marks (largest opposite numbers marks) → largest opposite numbers marks ≤ r
+    high (inl z) = omega arith
+    high (inr (k, h, t, s)) = let (j, p, q, e) = is .by (k / 3) t in omega (arith, best .above j k p q (sym e), s)
+
 -- ---- a region given to its owner
 -- What is joined with a triangle met is met.
 met-joined : {opposite numbers : List ℕ} {met : List Bool} {group : List ℕ} {n t u : ℕ} → Meeting numbers met group n → Spread opposite numbers met group n
@@ -173,20 +182,9 @@ module _ {choice : Choice} {opposite numbers : List ℕ} {met met' : List Bool} 
               let m = subst (λ x. getD met x false ≡ true) (sym (grown .same (b .0) old) ∙ b .2) (before .meeting .own (b .0) old) in
               absurd (not-both (getD met t false) free (met-joined (before .meeting) (before .spread) (joined-sym opposite numbers pairs is-gap joined) m))
 
-  -- The largest number across the sides of what stands there since is the region's.
-  pub is-largest : {owner : ℕ} → Best opposite numbers group' first n owner → owner ≡ largest opposite numbers (region opposite numbers t)
-  is-largest {owner} best = omega (arith, low (best .found), high (largest-found opposite numbers (region opposite numbers t)))
-    where
-      low : Found opposite numbers group' first n owner → owner ≤ largest opposite numbers (region opposite numbers t)
-      low (inl z) = omega arith
-      low (inr s) =
-          let k : s .1 < length opposite = omega (arith, in-table (grown .meeting) (getD group' (s .0) 0) (grown .meeting .own (s .0) (s .3)), s .4, pairs .sides) in
-          let r = subst (λ x. getD (region opposite numbers t) x false ≡ true) (sym (s .4)) (in-region t grown fresh (s .0) (s .2) (s .3)) in
-          omega (arith, largest-above opposite numbers (region opposite numbers t) (s .1) k r, s .5)
-
-      high : FoundAcross opposite numbers (region opposite numbers t) (largest opposite numbers (region opposite numbers t)) → largest opposite numbers (region opposite numbers t) ≤ owner
-      high (inl z) = omega arith
-      high (inr s) = let j = since (s .0 / 3) (s .2) in omega (arith, best .above (j .0) (s .0) (j .1) (j .2) (sym (j .3)), s .3)
+  -- What stands there since is the region's triangles, each once.
+  pub region-marked : Marked group' first n (region opposite numbers t)
+  region-marked = record { own = in-region t grown fresh; by = since; once = grown .meeting .once }
 
   module _ {owner : ℕ} {owners' : List ℕ} (chosen : owner ≡ choice numbers (region opposite numbers t)) (filled : Filled group' first n owner owners owners') where
     -- A triangle that was met has its owner, and one of the region gets the region's.
@@ -234,6 +232,7 @@ none-given choice opposite numbers {met} {group} {owners} e r o = record {
     own = λ i h. absurd (omega arith);
     by = λ t h. absurd (not-both (getD met t false) (unmarked t) h);
     gaps = λ t h. absurd (not-both (getD met t false) (unmarked t) h);
+    once = λ i j p q. absurd (omega arith);
   };
   spread = λ j h. absurd (omega arith);
   as-many = ap length o;

@@ -11,7 +11,8 @@ use Rattle.whole.specs.Sums.{All}
 use Rattle.whole.proofs.Sums.{all-at, all-from, counted}
 use Rattle.lent.specs.Stages.{value}
 use Rattle.owners_marks.specs.Listed.{OwnersListed}
-use Rattle.repair.specs.Repair.{Choice, settled, numbersGiven, repaired}
+use Rattle.repair_choices.specs.Choices.{Choice}
+use Rattle.repair.specs.Repair.{settled, numbersGiven, repaired}
 use Rattle.repair.specs.OneOwner.{ownersAt, OneOwner}
 use Rattle.repair.proofs.OneOwner.{clean-given}
 

@@ -1,5 +1,4 @@
 -- The theorems of repair.
-pub mod Largest
 pub mod OneOwner
 pub mod Kept
 pub mod Filling

@@ -1,5 +1,5 @@
--- Repair gives each triangle of a table exactly one owner, as laid down, whatever the choice for a region is; by the largest number there is one
--- such answer only. It is refused exactly where no triangle has an owner, or a gap region has none across its sides.
+-- Repair gives each triangle of a table exactly one owner, as laid down, whatever the choice for a region is; by the largest number, and by the longest shared boundary, there
+-- is one such answer only. It is refused exactly where no triangle has an owner, or a gap region has none across its sides.
 -- The idea: a gap region with nothing owned across its sides is closed under going across sides, so that in a connected table it has all
 -- triangles; where one triangle has an owner there is none such. Assumes nothing.
 use mathlib.Core.Path.{_≡_, refl, sym, _∙_, ap, ap₂, subst}
@@ -31,10 +31,13 @@ use Rattle.owners_marks.proofs.Owners.{all-there}
 use Rattle.repair_regions.specs.Regions.{gap, region, Joined}
 use Rattle.repair_regions.specs.Spreading.{Paired}
 use Rattle.repair_regions.proofs.Regions.{map-from-at, length-map-from, joined-gap, joined-within, region-own, region-closed, region-has, region-same, region-length, not-both}
-use Rattle.repair.specs.Repair.{settledBy, settled, Choice, beyond, largest, ownerOf, numbersGiven, ungiven, repaired}
-use Rattle.repair.specs.OneOwner.{ownersAt, FoundFor, OneOwner, LargestThere}
-use Rattle.repair.specs.Choosing.{FoundAcross, Chooses, Alone, SomeOwner, FirstAlone}
-use Rattle.repair.proofs.Largest.{largest-above, largest-chooses}
+use Rattle.repair_choices.specs.Choices.{Choice, beyond, sidesIn, largest, touched, shared, longest, choiceBy}
+use Rattle.repair_choices.specs.Choosing.{FoundAcross, Chooses, In, Favoured}
+use Rattle.repair_choices.proofs.Largest.{side-of, largest-above, largest-chooses}
+use Rattle.repair_choices.proofs.Longest.{touched-is, favoured-is, longest-chooses, shared-some}
+use Rattle.repair.specs.Repair.{settledBy, settled, ownerOf, numbersGiven, ungiven, repaired}
+use Rattle.repair.specs.OneOwner.{ownersAt, FoundFor, OneOwner, LargestThere, sharedWith, LongestThere, ChosenThere}
+use Rattle.repair.specs.Alone.{Alone, SomeOwner, FirstAlone}
 
 -- A side that has something across it is one of the list.
 has-side : (opposite : List ℕ) (k o : ℕ) → getD opposite k 0 ≡ suc o → k < length opposite
@@ -448,17 +451,14 @@ module _ (choice : Choice) (opposite : List ℕ) (owners : List (List ℕ)) wher
           → getD l t 0 ≡ choice (settled owners) (region opposite (settled owners) t)
       one-choice l e t h n = subst (λ l. getD l t 0 ≡ choiceFor t) (repaired-given l e .0) (answered-gap t h n)
 
--- ---- by the largest number
+-- ---- there is one list of owners only
 module _ (opposite : List ℕ) (owners : List (List ℕ)) where
-  -- There is one list of owners at most, as laid down and with none larger across a region's sides.
-  pub only-one : (l m : List ℕ) → OneOwner opposite owners l → LargestThere opposite owners l → OneOwner opposite owners m → LargestThere opposite owners m → l ≡ m
-  only-one l m p pl q ql = ext-getD 0 l m (p .each ∙ sym (q .each)) (λ t h. let i : t < length owners = omega (arith, p .each) in go t i (ownersAt owners t) refl)
+  -- as laid down and with the same numbers for gaps.
+  only-one : (l m : List ℕ) → OneOwner opposite owners l → OneOwner opposite owners m → ((t : ℕ) → t < length owners → ownersAt owners t ≡ [] → getD l t 0 ≡ getD m t 0) → l ≡ m
+  only-one l m p q gaps = ext-getD 0 l m (p .each ∙ sym (q .each)) (λ t h. let i : t < length owners = omega (arith, p .each) in go t i (ownersAt owners t) refl)
     where
       go : (t : ℕ) → t < length owners → (r : List ℕ) → ownersAt owners t ≡ r → getD l t 0 ≡ getD m t 0
-      go t h [] e =
-          let a = p .found t h e in
-          let b = q .found t h e in
-          omega (arith, a .5, b .5, pl .none-larger t (b .0) (b .1) h e (b .2) (b .3), ql .none-larger t (a .0) (a .1) h e (a .2) (a .3))
+      go t h [] e = gaps t h e
       go t h (k ∷ []) e = p .single t k h e ∙ sym (q .single t k h e)
       go t h (k ∷ j ∷ r) e =
           let two : 2 ≤ length (ownersAt owners t) = omega (arith, ap length e) in
@@ -466,28 +466,81 @@ module _ (opposite : List ℕ) (owners : List (List ℕ)) where
           let b = q .overlap t h two in
           omega (arith, a .1 (getD m t 0) (b .0), b .1 (getD l t 0) (a .0))
 
-  module _ (listed : OwnersListed owners) (pairs : Paired opposite (length owners)) (l : List ℕ) (e : repaired (largest opposite) opposite owners ≡ value l) where
-    -- The answer of repair is such a list,
-    pub largest-there : LargestThere opposite owners l
-    largest-there = record {
-      none-larger = λ t k o h n j d.
-          let numbers = settled owners in
-          let a = largest-above opposite numbers (region opposite numbers t) k (has-side opposite k o d) (in-region (largest opposite) opposite owners listed (largest-chooses opposite) pairs t (k / 3) h j) in
-          let b : getD numbers (o / 3) 0 ≤ largest opposite numbers (region opposite numbers t) = subst (λ x. beyond opposite numbers x ≤ largest opposite numbers (region opposite numbers t)) d a in
-          subst (λ m. getD numbers (o / 3) 0 ≤ m) (sym (one-choice (largest opposite) opposite owners listed (largest-chooses opposite) pairs l e t h n)) b;
-    }
+  -- What tells the number of each gap region is told of what repair answers, and of one list only.
+  pub record Tells (choice : Choice) (There : List ℕ → Type 0) : Type 0 where
+    pub told : (l : List ℕ) → repaired choice opposite owners ≡ value l → There l
+    pub one : (l m : List ℕ) → OneOwner opposite owners l → There l → OneOwner opposite owners m → There m → (t : ℕ) → t < length owners → ownersAt owners t ≡ [] → getD l t 0 ≡ getD m t 0
 
-    -- and no other is.
-    pub only-repair : (other : List ℕ) → OneOwner opposite owners other → LargestThere opposite owners other → other ≡ l
-    only-repair other q ql = only-one other l q ql (one-owner (largest opposite) opposite owners listed (largest-chooses opposite) pairs l e) largest-there
-
-  -- In a connected table repair answers a list exactly if it is such a list.
-  pub repaired-exactly : OwnersListed owners → Paired opposite (length owners) → Connects opposite (length owners) → 1 ≤ length owners
-      → (l : List ℕ) → (repaired (largest opposite) opposite owners ≡ value l) ↔ (OneOwner opposite owners l × LargestThere opposite owners l)
-  repaired-exactly listed pairs joins some-triangle l = (λ e. (one-owner (largest opposite) opposite owners listed (largest-chooses opposite) pairs l e, largest-there listed pairs l e), from)
+  -- So in a connected table repair answers a list exactly if it is such a list.
+  pub repaired-exactly : (choice : Choice) (There : List ℕ → Type 0) → Tells choice There → Chooses opposite choice → OwnersListed owners → Paired opposite (length owners) → Connects opposite (length owners) → 1 ≤ length owners
+      → (l : List ℕ) → (repaired choice opposite owners ≡ value l) ↔ (OneOwner opposite owners l × There l)
+  repaired-exactly choice There tells chooses listed pairs joins some-triangle l = (λ e. (one-owner choice opposite owners listed chooses pairs l e, tells .told l e), from)
     where
-      from : OneOwner opposite owners l × LargestThere opposite owners l → repaired (largest opposite) opposite owners ≡ value l
+      from : OneOwner opposite owners l × There l → repaired choice opposite owners ≡ value l
       from (p, q) =
           let (u, w, a) = p .owned 0 some-triangle in
-          let r = always-given (largest opposite) opposite owners listed (largest-chooses opposite) pairs joins (u, w, λ e. let z = subst (Among eqb (getD l 0 0)) e a in omega arith) in
-          r ∙ ap value (sym (only-repair listed pairs _ r l p q))
+          let r = always-given choice opposite owners listed chooses pairs joins (u, w, λ e. let z = subst (Among eqb (getD l 0 0)) e a in omega arith) in
+          r ∙ ap value (only-one _ l (one-owner choice opposite owners listed chooses pairs _ r) p (tells .one _ l (one-owner choice opposite owners listed chooses pairs _ r) (tells .told _ r) p q))
+
+  module _ (listed : OwnersListed owners) (pairs : Paired opposite (length owners)) where
+    -- By the largest number: none across a region's sides is larger.
+    largest-tells : Tells (largest opposite) (LargestThere opposite owners)
+    largest-tells = record {
+      told = λ l e. record {
+        none-larger = λ t k o h n j d.
+            let numbers = settled owners in
+            let a = largest-above opposite numbers (region opposite numbers t) k (has-side opposite k o d) (in-region (largest opposite) opposite owners listed (largest-chooses opposite) pairs t (k / 3) h j) in
+            let b : getD numbers (o / 3) 0 ≤ largest opposite numbers (region opposite numbers t) = subst (λ x. beyond opposite numbers x ≤ largest opposite numbers (region opposite numbers t)) d a in
+            subst (λ m. getD numbers (o / 3) 0 ≤ m) (sym (one-choice (largest opposite) opposite owners listed (largest-chooses opposite) pairs l e t h n)) b;
+      };
+      one = λ l m p pl q ql t h e.
+          let a = p .found t h e in
+          let b = q .found t h e in
+          omega (arith, a .5, b .5, pl .none-larger t (b .0) (b .1) h e (b .2) (b .3), ql .none-larger t (a .0) (a .1) h e (a .2) (a .3));
+    }
+
+    -- By the longest shared boundary: none across a region's sides shares more, and none as much is larger.
+    module _ (lengths : List ℕ) where
+      -- A number found across a region is touched by its sides.
+      found-touched : (t m : ℕ) → t < length owners → FoundFor opposite owners t m → In m (touched opposite (settled owners) (sidesIn opposite (settled owners) (region opposite (settled owners) t)))
+      found-touched t m h (k, o, j, d, f, e) =
+          let numbers = settled owners in
+          touched-is opposite numbers (sidesIn opposite numbers (region opposite numbers t)) m .1 (
+            λ z. f (gap-is opposite owners listed (o / 3) .0 (eq-eqb (getD numbers (o / 3) 0) 0 (sym e ∙ z))),
+            k,
+            side-of opposite numbers (region opposite numbers t) k .1 (has-side opposite k o d, in-region (longest lengths opposite) opposite owners listed (longest-chooses lengths opposite) pairs t (k / 3) h j),
+            ap (beyond opposite numbers) d ∙ sym e,
+          )
+
+      -- So where each side is at least 1 long, it has a shared length above 0.
+      pub found-shared : length lengths ≡ length opposite → All (λ n. 1 ≤ n) lengths → (t m : ℕ) → t < length owners → FoundFor opposite owners t m → 1 ≤ sharedWith lengths opposite owners t m
+      found-shared many long t m h f =
+          let numbers = settled owners in
+          let sides = sidesIn opposite numbers (region opposite numbers t) in
+          let (z, k, i, e) = touched-is opposite numbers sides m .0 (found-touched t m h f) in
+          let w : k < length lengths = omega (arith, side-of opposite numbers (region opposite numbers t) k .0 i .0) in
+          subst (λ m. 1 ≤ shared lengths opposite numbers sides m) e (shared-some lengths opposite numbers (λ k l. all-at (λ n. 1 ≤ n) 0 lengths k long l) sides k w i)
+
+      longest-tells : Tells (longest lengths opposite) (LongestThere lengths opposite owners)
+      longest-tells = record {
+        told = λ l e. record {
+          none-longer = λ t m h n f. favours l e t h n .none-longer m (found-touched t m h f);
+          none-larger = λ t m h n f. favours l e t h n .none-larger m (found-touched t m h f);
+        };
+        one = λ l m p pl q ql t h e.
+            let a = p .found t h e in
+            let b = q .found t h e in
+            let same : sharedWith lengths opposite owners t (getD l t 0) ≡ sharedWith lengths opposite owners t (getD m t 0) = omega (arith, pl .none-longer t (getD m t 0) h e b, ql .none-longer t (getD l t 0) h e a) in
+            omega (arith, pl .none-larger t (getD m t 0) h e b (sym same), ql .none-larger t (getD l t 0) h e a same);
+      }
+        where
+          favours : (l : List ℕ) → repaired (longest lengths opposite) opposite owners ≡ value l → (t : ℕ) → t < length owners → ownersAt owners t ≡ []
+              → Favoured lengths opposite (settled owners) (sidesIn opposite (settled owners) (region opposite (settled owners) t)) (getD l t 0)
+          favours l e t h n =
+              let sides = sidesIn opposite (settled owners) (region opposite (settled owners) t) in
+              subst (Favoured lengths opposite (settled owners) sides) (sym (one-choice (longest lengths opposite) opposite owners listed (longest-chooses lengths opposite) pairs l e t h n)) (favoured-is lengths opposite (settled owners) sides)
+
+      -- In each way.
+      pub way-tells : (way : ℕ) → Tells (choiceBy way lengths opposite) (ChosenThere way lengths opposite owners)
+      way-tells zero = largest-tells
+      way-tells (suc way) = longest-tells

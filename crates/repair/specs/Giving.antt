@@ -10,9 +10,10 @@ use Rattle.whole.specs.Sums.{every}
 use Rattle.lent.specs.Stages.{Answer, value, refused}
 use Rattle.repair_regions.specs.Regions.{region}
 use Rattle.repair_regions.specs.Spreading.{Meeting, Spread}
+use Rattle.repair_choices.specs.Choices.{Choice, beyond, known, choiceBy}
 use Rattle.repair.specs.declared.Repaired.{Repaired}
 use Rattle.repair.specs.declared.Repaired.the-variants.{Done, Refused}
-use Rattle.repair.specs.Repair.{settled, Choice, beyond, largest, numbersGiven, repaired}
+use Rattle.repair.specs.Repair.{settled, numbersGiven, repaired}
 use Rattle.repair.specs.Ways.{repairedBy}
 
 -- The largest number across the sides of the triangles of the group from `first` on and before i; 0 where there is none.
@@ -53,9 +54,9 @@ pub record RepairedTo (choice : Choice) (opposite : List ℕ) (owners : List (Li
   pub left : after ≡ ownersLeft choice opposite owners before
 
 -- The same of a repair in a way: where the way is unknown, they are as they were.
-abbrev pub ownersLeftBy : ℕ → List ℕ → List (List ℕ) → List ℕ → List ℕ
-ownersLeftBy way opposite owners lent = cond (eqb way 0) (ownersLeft (largest opposite) opposite owners lent) lent
+abbrev pub ownersLeftBy : ℕ → List ℕ → List ℕ → List (List ℕ) → List ℕ → List ℕ
+ownersLeftBy way lengths opposite owners lent = cond (known way) (ownersLeft (choiceBy way lengths opposite) opposite owners lent) lent
 
-pub record RepairedBy (way : ℕ) (opposite : List ℕ) (owners : List (List ℕ)) (before : List ℕ) (r : Repaired) (after : List ℕ) : Type 0 where
-  pub answer : repairOf r after ≡ repairedBy way opposite owners
-  pub left : after ≡ ownersLeftBy way opposite owners before
+pub record RepairedBy (way : ℕ) (lengths opposite : List ℕ) (owners : List (List ℕ)) (before : List ℕ) (r : Repaired) (after : List ℕ) : Type 0 where
+  pub answer : repairOf r after ≡ repairedBy way lengths opposite owners
+  pub left : after ≡ ownersLeftBy way lengths opposite owners before

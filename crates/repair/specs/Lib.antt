@@ -3,4 +3,4 @@ pub mod Repair
 pub mod Ways
 pub mod Giving
 pub mod OneOwner
-pub mod Choosing
+pub mod Alone

@@ -1,11 +1,12 @@
 -- What repair promises: each triangle has exactly one owner, as laid down.
 use mathlib.Core.Path.{_≡_}
 use mathlib.Core.List.{List, [], _∷_}
-use Prim.Native.Nat.{ℕ, suc, _/_, _≤_, _<_}
+use Prim.Native.Nat.{ℕ, zero, suc, _/_, _≤_, _<_}
 use lib.Dec.{eqb}
 use lib.ListN.{length, getD}
 use Rattle.whole.specs.Sums.{Among}
-use Rattle.repair_regions.specs.Regions.{Joined}
+use Rattle.repair_regions.specs.Regions.{region, Joined}
+use Rattle.repair_choices.specs.Choices.{sidesIn, shared}
 use Rattle.repair.specs.Repair.{settled}
 
 -- The owners of triangle t.
@@ -38,3 +39,18 @@ pub record OneOwner (opposite : List ℕ) (owners : List (List ℕ)) (l : List �
 pub record LargestThere (opposite : List ℕ) (owners : List (List ℕ)) (l : List ℕ) : Type 0 where
   pub none-larger : (t k o : ℕ) → t < length owners → ownersAt owners t ≡ [] → Joined opposite (settled owners) t (k / 3) → getD opposite k 0 ≡ suc o
       → getD (settled owners) (o / 3) 0 ≤ getD l t 0
+
+-- The length that the region of the gap t shares with number m.
+abbrev pub sharedWith : List ℕ → List ℕ → List (List ℕ) → ℕ → ℕ → ℕ
+sharedWith lengths opposite owners t m = shared lengths opposite (settled owners) (sidesIn opposite (settled owners) (region opposite (settled owners) t)) m
+
+-- No number found across a gap's region shares more with it than the region's, and none that shares as much is larger.
+pub record LongestThere (lengths opposite : List ℕ) (owners : List (List ℕ)) (l : List ℕ) : Type 0 where
+  pub none-longer : (t m : ℕ) → t < length owners → ownersAt owners t ≡ [] → FoundFor opposite owners t m → sharedWith lengths opposite owners t m ≤ sharedWith lengths opposite owners t (getD l t 0)
+  pub none-larger : (t m : ℕ) → t < length owners → ownersAt owners t ≡ [] → FoundFor opposite owners t m → sharedWith lengths opposite owners t m ≡ sharedWith lengths opposite owners t (getD l t 0)
+      → m ≤ getD l t 0
+
+-- Which number a gap region goes to, by the way: the largest across its sides, or the one with the greatest shared length.
+abbrev pub ChosenThere : ℕ → List ℕ → List ℕ → List (List ℕ) → List ℕ → Type 0
+ChosenThere zero lengths opposite owners l = LargestThere opposite owners l
+ChosenThere (suc way) lengths opposite owners l = LongestThere lengths opposite owners l

@@ -1,18 +1,18 @@
 -- Repair: triangles with one owner keep it, an overlap goes to its smallest owner number, and then each gap region, a largest group of gap
--- triangles joined through shared sides, goes as a whole to the number chosen for it. Document 01's choice is the largest number found across the
--- region's sides once the overlaps are settled.
-use mathlib.Core.Bool.{Bool, false, not, cond}
-use mathlib.Core.List.{List, [], _∷_, map}
-use Prim.Native.Nat.{ℕ, zero, suc, _/_}
-use lib.Dec.{eqb, leb}
+-- triangles joined through shared sides, goes as a whole to the number chosen for it.
+use mathlib.Core.Bool.{Bool, not, cond}
+use mathlib.Core.List.{List, [], map}
+use Prim.Native.Nat.{ℕ}
+use lib.Dec.{eqb}
 use lib.ListN.{length, getD}
-use Rattle.whole.specs.Sums.{every, passing}
+use Rattle.whole.specs.Sums.{every}
 use Rattle.lent.specs.Stages.{Answer, value, andThen, needing, faultless}
 use Rattle.table.specs.Table.{firstFault}
 use Rattle.owners_marks.specs.declared.Standing.{Standing}
 use Rattle.owners_marks.specs.declared.Standing.the-variants.{Gap, Single, Overlap}
 use Rattle.owners_marks.specs.Marks.{standingBy}
 use Rattle.repair_regions.specs.Regions.{from, gap, region}
+use Rattle.repair_choices.specs.Choices.{Choice}
 
 -- The owner number of a triangle once the overlaps are settled; 0 for a gap.
 abbrev pub settledBy : Standing → ℕ
@@ -22,32 +22,6 @@ settledBy (Overlap k) = k
 
 abbrev pub settled : List (List ℕ) → List ℕ
 settled = map (λ owners. settledBy (standingBy owners))
-
--- A choice for gap regions: the number given to a group of triangles, by the settled numbers of all triangles; 0 where nobody can be given it.
-abbrev pub Choice : Type 0
-Choice = List ℕ → List Bool → ℕ
-
--- The greater of two numbers, and the greatest of a list, 0 for none.
-abbrev pub greater : ℕ → ℕ → ℕ
-greater m n = cond (leb m n) n m
-
-abbrev pub greatest : List ℕ → ℕ
-greatest [] = 0
-greatest (n ∷ l) = greater n (greatest l)
-
-module _ (opposite numbers : List ℕ) where
-  -- The number found across a side, 0 where the table ends.
-  abbrev pub beyond : ℕ → ℕ
-  beyond zero = 0
-  beyond (suc o) = getD numbers (o / 3) 0
-
-  -- The sides of a group of triangles, by number: side k is of triangle k / 3.
-  abbrev pub sidesIn : List Bool → List ℕ
-  sidesIn group = passing (λ k. getD group (k / 3) false) (from 0 (length opposite))
-
--- The largest number found across the sides of a group.
-abbrev pub largest : List ℕ → Choice
-largest opposite numbers group = greatest (map (λ k. beyond opposite numbers (getD opposite k 0)) (sidesIn opposite numbers group))
 
 module _ (choice : Choice) (opposite : List ℕ) where
   -- The owner number of a triangle after repair, and those of all triangles; 0 where nobody can be given the triangle.

@@ -1,16 +1,19 @@
-// Repair: overlaps settled to their smallest owner number, and each gap region given to the largest number across its sides.
+// Repair: overlaps settled to their smallest owner number, and each gap region given to the number chosen for it.
 ghost use mathlib.Core.Path.{_≡_};
-ghost use mathlib.Core.Bool.{false};
-ghost use mathlib.Core.List.{[], map};
+ghost use mathlib.Core.Bool.{Bool, false};
+ghost use mathlib.Core.List.{List, [], map};
 ghost use Prim.Native.Nat.{ℕ, _*_, _+_, _≤_, _<_};
 ghost use lib.Dec.{eqb};
 ghost use lib.ListN.{length, getD, replicate};
-ghost use Rattle.whole.specs.Sums.{every};
+ghost use Rattle.whole.specs.Sums.{All, every};
 ghost use Rattle.table.specs.Table.{firstFault};
 ghost use Rattle.table.specs.Sides.{itemOf};
 ghost use Rattle.owners_marks.specs.Sets.{ownersOf, standingOf};
 ghost use Rattle.repair_regions.specs.Spreading.{Paired};
-ghost use Rattle.repair.specs.Repair.{settledBy, settled, largest, greater, beyond, numbersGiven, ungiven};
+ghost use Rattle.repair_choices.specs.Choices.{greater, beyond, choiceBy};
+ghost use Rattle.repair_choices.specs.Adding.{Marked};
+ghost use Rattle.repair_longest.specs.Held.{TableIn, lengthsHeld};
+ghost use Rattle.repair.specs.Repair.{settledBy, settled, numbersGiven, ungiven};
 ghost use Rattle.repair.specs.Giving.{RepairedTo, RepairedBy, Best, Filled, State, Further};
 
 // The owner number of a triangle once the overlaps are settled; 0 for a gap.
@@ -91,8 +94,31 @@ fn highest(opposite: &[usize], numbers: &[u8], group: &[usize], first: usize, n:
     best
 }
 
-// The region of triangle t, where it is a gap that has not been met, is given to the largest number across its sides.
+// The number chosen in a way for the triangles of the group from `first` on and before n.
+fn choose(
+    way: u32,
+    table: &[u32],
+    opposite: &[usize],
+    numbers: &[u8],
+    group: &[usize],
+    first: usize,
+    n: usize,
+) -> u8
+    requires { ⌜ Paired (now opposite) (length (now numbers)) × TableIn (now table) (length (now numbers)) × All (λ x. x ≤ 64) (now numbers) × (first ≤ n) × (n ≤ length (now group)) × (n ≤ 1024)
+        × ((j : ℕ) → j < n → getD (now group) j 0 < length (now numbers)) ⌝ }
+    ensures { λ r. ⌜ ((marks : List Bool) → Marked (now (group .entry)) first n marks
+        → r ≡ choiceBy way (lengthsHeld (now (table .entry)) (length (now (opposite .entry)))) (now (opposite .entry)) (now (numbers .entry)) marks) ⌝ }
+{
+    if way == 0 {
+        return highest(opposite, numbers, group, first, n);
+    }
+    repair_longest::longest(table, opposite, numbers, group, first, n)
+}
+
+// The region of triangle t, where it is a gap that has not been met, is given to the number chosen for it.
 fn give(
+    way: u32,
+    table: &[u32],
     opposite: &[usize],
     numbers: &[u8],
     t: usize,
@@ -101,8 +127,9 @@ fn give(
     first: usize,
     owners: &mut [u8],
 ) -> usize
-    requires { ⌜ Paired (now opposite) (length (now numbers)) × State (largest (now opposite)) (now opposite) (now numbers) (now met) (now group) first (now owners) × (t < length (now numbers)) ⌝ }
-    ensures { λ r. ⌜ State (largest (now (opposite .entry))) (now (opposite .entry)) (now (numbers .entry)) (now (met .exit)) (now (group .exit)) r (now (owners .exit))
+    requires { ⌜ Paired (now opposite) (length (now numbers)) × TableIn (now table) (length (now numbers)) × All (λ x. x ≤ 64) (now numbers) × (length (now numbers) ≤ 1024)
+        × State (choiceBy way (lengthsHeld (now table) (length (now opposite))) (now opposite)) (now opposite) (now numbers) (now met) (now group) first (now owners) × (t < length (now numbers)) ⌝ }
+    ensures { λ r. ⌜ State (choiceBy way (lengthsHeld (now (table .entry)) (length (now (opposite .entry)))) (now (opposite .entry))) (now (opposite .entry)) (now (numbers .entry)) (now (met .exit)) (now (group .exit)) r (now (owners .exit))
         × Further (now (numbers .entry)) (now (met .entry)) (now (met .exit)) t ⌝ }
 {
     if numbers[t] != 0 {
@@ -112,26 +139,29 @@ fn give(
         return first;
     }
     let n = repair_regions::collect(opposite, numbers, t, met, group, first);
-    let owner = highest(opposite, numbers, group, first, n);
+    let owner = choose(way, table, opposite, numbers, group, first, n);
     fill(group, first, n, owner, owners);
     n
 }
 
-// Each gap region is given to the largest number across its sides; the other triangles keep theirs.
+// Each gap region is given to the number chosen for it; the other triangles keep theirs.
 fn give_all(
+    way: u32,
+    table: &[u32],
     opposite: &[usize],
     numbers: &[u8],
     met: &mut [bool],
     group: &mut [usize],
     owners: &mut [u8],
 )
-    requires { ⌜ Paired (now opposite) (length (now numbers)) × (now met ≡ replicate (length (now numbers)) false) × (length (now group) ≡ length (now numbers)) × (now owners ≡ now numbers) ⌝ }
-    ensures { λ _. ⌜ now (owners .exit) ≡ numbersGiven (largest (now (opposite .entry))) (now (opposite .entry)) (now (numbers .entry)) ⌝ }
+    requires { ⌜ Paired (now opposite) (length (now numbers)) × TableIn (now table) (length (now numbers)) × All (λ x. x ≤ 64) (now numbers) × (length (now numbers) ≤ 1024)
+        × (now met ≡ replicate (length (now numbers)) false) × (length (now group) ≡ length (now numbers)) × (now owners ≡ now numbers) ⌝ }
+    ensures { λ _. ⌜ now (owners .exit) ≡ numbersGiven (choiceBy way (lengthsHeld (now (table .entry)) (length (now (opposite .entry)))) (now (opposite .entry))) (now (opposite .entry)) (now (numbers .entry)) ⌝ }
 {
     let mut n: usize = 0;
     let mut t: usize = 0;
     while t < numbers.len() {
-        n = give(opposite, numbers, t, met, group, n, owners);
+        n = give(way, table, opposite, numbers, t, met, group, n, owners);
         t += 1;
     }
 }
@@ -170,11 +200,11 @@ pub enum Repaired {
     Refused(u32, u32),
 }
 
-// Repair by the priority list: the owner number of each triangle, from the owner sets. 30 where no triangle has an owner, and the list is as it was; 31
+// Repair in a way that is known: the owner number of each triangle, from the owner sets. 30 where no triangle has an owner, and the list is as it was; 31
 // with the first triangle that nobody can be given, and the list has the numbers given.
-fn by_priority(opposite: &[usize], sets: &[u64], owners: &mut [u8]) -> Repaired
-    requires { ⌜ Paired (now opposite) (length (now sets)) × (length (now owners) ≡ length (now sets)) × (length (now sets) ≤ 1024) ⌝ }
-    ensures { λ r. ⌜ RepairedTo (largest (now (opposite .entry))) (now (opposite .entry)) (map ownersOf (now (sets .entry))) (now (owners .entry)) r (now (owners .exit)) ⌝ }
+fn in_way(way: u32, table: &[u32], opposite: &[usize], sets: &[u64], owners: &mut [u8]) -> Repaired
+    requires { ⌜ Paired (now opposite) (length (now sets)) × (length (now owners) ≡ length (now sets)) × (length (now sets) ≤ 1024) × TableIn (now table) (length (now sets)) ⌝ }
+    ensures { λ r. ⌜ RepairedTo (choiceBy way (lengthsHeld (now (table .entry)) (length (now (opposite .entry)))) (now (opposite .entry))) (now (opposite .entry)) (map ownersOf (now (sets .entry))) (now (owners .entry)) r (now (owners .exit)) ⌝ }
 {
     let n = sets.len();
     let mut numbers = [0u8; 1024];
@@ -186,6 +216,8 @@ fn by_priority(opposite: &[usize], sets: &[u64], owners: &mut [u8]) -> Repaired
     }
     settle(sets, owners);
     give_all(
+        way,
+        table,
         opposite,
         &numbers[..n],
         &mut met[..n],
@@ -199,13 +231,19 @@ fn by_priority(opposite: &[usize], sets: &[u64], owners: &mut [u8]) -> Repaired
     Repaired::Done
 }
 
-// Repair in a way. 54 where the way is unknown, and the list is as it was.
-pub fn repair(way: u32, opposite: &[usize], sets: &[u64], owners: &mut [u8]) -> Repaired
-    requires { ⌜ Paired (now opposite) (length (now sets)) × (length (now owners) ≡ length (now sets)) × (length (now sets) ≤ 1024) ⌝ }
-    ensures { λ r. ⌜ RepairedBy way (now (opposite .entry)) (map ownersOf (now (sets .entry))) (now (owners .entry)) r (now (owners .exit)) ⌝ }
+// Repair in a way, by the table's corners off the numbers form. 54 where the way is unknown, and the list is as it was.
+pub fn repair(
+    way: u32,
+    table: &[u32],
+    opposite: &[usize],
+    sets: &[u64],
+    owners: &mut [u8],
+) -> Repaired
+    requires { ⌜ Paired (now opposite) (length (now sets)) × (length (now owners) ≡ length (now sets)) × (length (now sets) ≤ 1024) × TableIn (now table) (length (now sets)) ⌝ }
+    ensures { λ r. ⌜ RepairedBy way (lengthsHeld (now (table .entry)) (length (now (opposite .entry)))) (now (opposite .entry)) (map ownersOf (now (sets .entry))) (now (owners .entry)) r (now (owners .exit)) ⌝ }
 {
-    if way != 0 {
+    if way > 1 {
         return Repaired::Refused(54, 0);
     }
-    by_priority(opposite, sets, owners)
+    in_way(way, table, opposite, sets, owners)
 }

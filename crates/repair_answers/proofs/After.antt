@@ -3,7 +3,6 @@ use mathlib.Core.Path.{_≡_, sym, _∙_, ap}
 use mathlib.Core.List.{List, _++_}
 use Prim.Native.Nat.{ℕ, _+_, _*_, _≤_, _<_}
 use native.Mathlib.Omega.{arith}
-use lib.Dec.{eqb}
 use lib.ListN.{length, take, length-append}
 use lib.Seq.{take-at}
 use Rattle.whole.specs.Sums.{All}
@@ -15,30 +14,31 @@ use Rattle.lent_little.specs.Held.{SideIn}
 use Rattle.repair_regions.specs.Spreading.{Paired}
 use Rattle.repair.specs.declared.Repaired.{Repaired}
 use Rattle.repair.specs.declared.Repaired.the-variants.{Done, Refused}
-use Rattle.repair.specs.Repair.{largest, repaired}
+use Rattle.repair_choices.specs.Choices.{known, choiceBy}
+use Rattle.repair.specs.Repair.{repaired}
 use Rattle.repair.specs.Ways.{repairedBy}
 use Rattle.repair.specs.Giving.{repairOf, RepairedBy}
 use Rattle.repair.proofs.OneOwner.{repaired-length}
 use Rattle.repair_sides.specs.Numbered.{boundaryNumbers}
 use Rattle.repair_sides.proofs.Laying.{bounding-below}
 
-module _ {way : ℕ} {opposite : List ℕ} {owners : List (List ℕ)} {lent : List ℕ} {r : Repaired} {after : List ℕ} (e : RepairedBy way opposite owners lent r after) where
+module _ {way : ℕ} {lengths opposite : List ℕ} {owners : List (List ℕ)} {lent : List ℕ} {r : Repaired} {after : List ℕ} (e : RepairedBy way lengths opposite owners lent r after) where
   -- A refusal of repair is passed on.
-  pub not-repaired : (next : List ℕ → Outcome) {code item : ℕ} → r ≡ Refused code item → andThen (repairedBy way opposite owners) next ≡ refused code item
+  pub not-repaired : (next : List ℕ → Outcome) {code item : ℕ} → r ≡ Refused code item → andThen (repairedBy way lengths opposite owners) next ≡ refused code item
   not-repaired next f = ap (λ a. andThen a next) (sym (e .answer) ∙ ap (λ r. repairOf r after) f)
 
   module _ (f : r ≡ Done) where
-    repaired-to : repairedBy way opposite owners ≡ value after
+    repaired-to : repairedBy way lengths opposite owners ≡ value after
     repaired-to = sym (e .answer) ∙ ap (λ r. repairOf r after) f
 
     -- Else it goes on with the owner numbers, one for each triangle.
-    pub goes-on : (next : List ℕ → Outcome) → andThen (repairedBy way opposite owners) next ≡ next after
+    pub goes-on : (next : List ℕ → Outcome) → andThen (repairedBy way lengths opposite owners) next ≡ next after
     goes-on next = ap (λ a. andThen a next) repaired-to
 
     pub as-many : length after ≡ length owners
     as-many =
-        let (u, p, q) = chain-value (needing (eqb way 0) 54 0) (λ passed. repaired (largest opposite) opposite owners) after .0 repaired-to in
-        repaired-length (largest opposite) opposite owners after q
+        let (u, p, q) = chain-value (needing (known way) 54 0) (λ passed. repaired (choiceBy way lengths opposite) opposite owners) after .0 repaired-to in
+        repaired-length (choiceBy way lengths opposite) opposite owners after q
 
 -- The front of a work list that was lent.
 pub room : (part rest : List ℕ) (n : ℕ) → length part ≡ n → n ≤ length (part ++ rest)

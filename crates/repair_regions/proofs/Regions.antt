@@ -87,7 +87,13 @@ and-one false c e = absurd (not-both false refl e)
 and-two : (b c : Bool) → b ≡ true → c ≡ true → b && c ≡ true
 and-two b c e f = rw (e, f)
 
-same-test : (b c : Bool) → (b ≡ true → c ≡ true) → (c ≡ true → b ≡ true) → b ≡ c
+-- A test that is not passed,
+pub failed : (b : Bool) → (b ≡ true → ⊥) → b ≡ false
+failed true h = absurd (h refl)
+failed false h = refl
+
+-- and two that are passed alike.
+pub same-test : (b c : Bool) → (b ≡ true → c ≡ true) → (c ≡ true → b ≡ true) → b ≡ c
 same-test true c f g = sym (f refl)
 same-test false true f g = g refl
 same-test false false f g = refl

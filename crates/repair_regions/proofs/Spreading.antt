@@ -13,7 +13,7 @@ use lib.Seq.{getD-set-same, getD-set-other}
 use Rattle.whole.specs.Sums.{bit}
 use Rattle.repair_regions.specs.Regions.{region}
 use Rattle.repair_regions.specs.Spreading.{Paired, marked, Meeting, Taken, stays, takes, Grown, Fresh, FreshFrom, Across, Rounded, Spread, InRegion}
-use Rattle.repair_regions.proofs.Regions.{region-closed, region-own}
+use Rattle.repair_regions.proofs.Regions.{region-closed, region-own, not-both}
 
 -- ---- the number of marks
 marked-set : (l : List Bool) (t : ℕ) → t < length l → getD l t false ≡ false → marked (set l t true) ≡ suc (marked l)
@@ -74,6 +74,7 @@ module _ {numbers : List ℕ} {met : List Bool} {group : List ℕ} {n : ℕ} (m 
         own = λ i p. own-marked i p (ℕ-discrete i n);
         by = λ t q. met-by t q (ℕ-discrete t u);
         gaps = λ t q. met-gap t q (ℕ-discrete t u);
+        once = λ i j p q e. no-other i j p q e (ℕ-discrete j n);
       };
       more = omega arith;
       same = at-old;
@@ -94,6 +95,12 @@ module _ {numbers : List ℕ} {met : List Bool} {group : List ℕ} {n : ℕ} (m 
         met-gap : (t : ℕ) → getD (set met u true) t false ≡ true → Dec (t ≡ u) → getD numbers t 0 ≡ 0
         met-gap t q (yes e) = rw e open-gap
         met-gap t q (no e) = m .gaps t (sym (getD-set-other met u t true false e) ∙ q)
+
+        -- What stood in the group is marked, and u is not.
+        no-other : (i j : ℕ) → i < j → j < suc n → getD (set group n u) i 0 ≡ getD (set group n u) j 0 → Dec (j ≡ n) → ⊥
+        no-other i j p q e (yes s) =
+            not-both (getD met u false) free (subst (λ t. getD met t false ≡ true) (sym (at-old i (omega arith)) ∙ e ∙ at-new j s) (m .own i (omega arith)))
+        no-other i j p q e (no s) = m .once i j p (omega arith) (sym (at-old i (omega arith)) ∙ e ∙ at-old j (omega arith))
 
     new-marked : getD (set met u true) u false ≡ true
     new-marked = getD-set-same met u true false inside

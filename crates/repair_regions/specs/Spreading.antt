@@ -19,7 +19,7 @@ abbrev pub marked : List Bool → ℕ
 marked [] = 0
 marked (b ∷ l) = bit b + marked l
 
--- What has been met: n gap triangles stand in the group, and the marks are theirs, as many as there are triangles in it.
+-- What has been met: n gap triangles stand in the group, each once, and the marks are theirs, as many as there are triangles in it.
 pub record Meeting (numbers : List ℕ) (met : List Bool) (group : List ℕ) (n : ℕ) : Type 0 where
   pub marks : length met ≡ length numbers
   pub room : length group ≡ length numbers
@@ -27,6 +27,7 @@ pub record Meeting (numbers : List ℕ) (met : List Bool) (group : List ℕ) (n 
   pub own : (i : ℕ) → i < n → getD met (getD group i 0) false ≡ true
   pub by : (t : ℕ) → getD met t false ≡ true → (i : ℕ) × (i < n) × (getD group i 0 ≡ t)
   pub gaps : (t : ℕ) → getD met t false ≡ true → getD numbers t 0 ≡ 0
+  pub once : (i j : ℕ) → i < j → j < n → getD group i 0 ≡ getD group j 0 → ⊥
 
 -- Triangle u is taken in as number n unless it has a number or is marked.
 pub data Taken (numbers : List ℕ) (u : ℕ) (met : List Bool) (group : List ℕ) (n : ℕ) (met' : List Bool) (group' : List ℕ) (n' : ℕ) : Type 0 where

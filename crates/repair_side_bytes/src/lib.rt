@@ -9,6 +9,7 @@ ghost use Rattle.lent_little.specs.Held.{SideIn, sideHeld};
 ghost use Rattle.lent.specs.Answered.{Answered};
 ghost use Rattle.owners_marks.specs.Sets.{ownersOf};
 ghost use Rattle.repair_regions.specs.Spreading.{Paired};
+ghost use Rattle.repair_longest.specs.Held.{TableIn, lengthsHeld};
 ghost use Rattle.repair_answers.specs.Held.{sidesOutcome};
 
 // Writes side k of the table, off the numbers form: the coordinates of corner k, then those of the next corner of its triangle.
@@ -46,14 +47,14 @@ pub fn boundary(
     polygon: u8,
     out: &mut [u8],
 ) -> u64
-    requires { ⌜ Paired (now opposite) (length (now sets)) × (length (now sets) ≤ 1024) × (1 + 6 * length (now sets) ≤ length (now numbers)) ⌝ }
-    ensures { λ r. ⌜ Answered (sidesOutcome (now (numbers .entry)) way (now (opposite .entry)) (map ownersOf (now (sets .entry))) polygon) (now (out .entry)) r (now (out .exit)) ⌝ }
+    requires { ⌜ Paired (now opposite) (length (now sets)) × (length (now sets) ≤ 1024) × TableIn (now numbers) (length (now sets)) ⌝ }
+    ensures { λ r. ⌜ Answered (sidesOutcome (now (numbers .entry)) way (lengthsHeld (now (numbers .entry)) (length (now (opposite .entry)))) (now (opposite .entry)) (map ownersOf (now (sets .entry))) polygon) (now (out .entry)) r (now (out .exit)) ⌝ }
 {
     let n = sets.len();
     let m = opposite.len();
     let mut owners = [0u8; 1024];
     let mut sides = [0usize; 3072];
-    let repaired = repair::repair(way, opposite, sets, &mut owners[..n]);
+    let repaired = repair::repair(way, numbers, opposite, sets, &mut owners[..n]);
     if let repair::Repaired::Refused(code, item) = repaired {
         return item as u64 * 256 + code as u64;
     }

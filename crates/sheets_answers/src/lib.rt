@@ -92,7 +92,7 @@ fn go_on(
 {
     match wanted {
         Wanted::OwnerSets => lent_sets::owner_sets(sets, out),
-        Wanted::Owners => repair_owner_bytes::owners(way, opposite, sets, out),
+        Wanted::Owners => repair_owner_bytes::owners(way, numbers, opposite, sets, out),
         Wanted::Boundary(polygon) => boundary(way, polygon, numbers, opposite, sets, out),
     }
 }

@@ -17,7 +17,7 @@ pub unsafe extern "C" fn LLVMFuzzerTestOneInput(data: *const u8, size: usize) ->
     let asked = u32::from(input.last().copied().unwrap_or(0) % 5);
     let reading = [Entry::Numbers, Entry::NumbersBy(1), Entry::NumbersBy(asked), Entry::Position(0), Entry::Position(asked)];
     let entries = [Entry::OwnerSets, Entry::Owners, Entry::Boundary(asked), Entry::Listing, Entry::Write];
-    let way = asked / 4 * 2;
+    let way = asked / 2;
     let older = [Entry::OwnerSetsBy(1), Entry::OwnersBy(1, way), Entry::BoundaryBy(1, way, asked), Entry::ListingBy(1, way)];
     let mode = 2 + asked % 2;
     let of_blobs = [Entry::NumbersBy(mode), Entry::Position(mode), Entry::OwnerSetsBy(mode), Entry::OwnersBy(mode, way)];

@@ -23,7 +23,7 @@ use lines::Outcome;
 use names::shown;
 use sheets::Mode;
 
-const HELP: &str = "usage: gate [--json] [--flat] [--older] [--blob] PATH..
+const HELP: &str = "usage: gate [--json] [--flat] [--older] [--blob] [--longest] PATH..
 Checks sheet files on all cores, and prints a verdict line for each, in the order of the command, and a summary.
   FILE: clean, FILE: repair, FILE: refused CODE ITEM: WHY, or FILE: could not be read: WHY
 With the codes 1 to 8 it is refused CODE ITEM at byte N: WHY, where N is the place of the fault in the file, 0 for its first byte.
@@ -33,6 +33,7 @@ paths. What is passed over in a folder is said on standard error and counted in 
   --flat       only the files of a folder itself
   --older      the sheets are of the older edition: rings that run the wrong way are turned
   --blob       each file is a geometry blob of a GeoPackage table, with a sheet in it; in a folder their names end in .gpb
+  --longest    gaps go to the polygon that they share the longest boundary with, and not by priority; verdicts are the same
   -h, --help   this text
   --version    the version
   --           every word behind it is a path
@@ -76,7 +77,7 @@ impl Command {
         clap::Command::new("gate")
             .disable_version_flag(true)
             .args_override_self(true)
-            .args(["json", "flat", "older", "blob"].map(flag))
+            .args(["json", "flat", "older", "blob", "longest"].map(flag))
             .arg(Arg::new("version").long("version").action(ArgAction::Version))
             .version(env!("CARGO_PKG_VERSION"))
             .arg(paths)
@@ -92,6 +93,7 @@ impl Command {
                 _ => refuse(&misled(words, &error)),
             },
         };
+        // A verdict is told before gaps are filled: it is the same with --longest and without.
         let mut mode = Mode::Present;
         if given.get_flag("older") {
             mode = mode.older();

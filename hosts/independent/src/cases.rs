@@ -139,6 +139,9 @@ mod tests {
             Outcome::Repaired(numbers) => {
                 answered(Entry::OwnersBy(mode, 0), input) == (256 * numbers.len() as u64, Some(numbers.clone()))
             }
+            Outcome::InWays(priority, longest) => [priority, longest].into_iter().zip(WAYS).all(|(numbers, way)| {
+                answered(Entry::OwnersBy(mode, way), input) == (256 * numbers.len() as u64, Some(numbers.clone()))
+            }),
             Outcome::Refused(code, item) => is_refused(mode, input, Refusal::new(*code, *item)),
             Outcome::Unread(code, item, position) => {
                 let refusal = Refusal::new(*code, *item);
@@ -281,13 +284,13 @@ mod tests {
 
     /// A request that adds a mode or a way changes these numbers.
     #[test]
-    fn four_modes_and_one_way_are_known() {
+    fn four_modes_and_two_ways_are_known() {
         let clean = named("clean");
         let numbers = || (0..600).chain([1 << 16, (1 << 16) + 1, 1 << 31, (1 << 31) + 1, u32::MAX]);
         let modes = numbers().filter(|mode| answered(Entry::NumbersBy(*mode), &clean) != (57, None));
         let ways = numbers().filter(|way| answered(Entry::OwnersBy(0, *way), &clean) != (54, None));
         assert_eq!((modes.collect(), ways.collect()), (vec![0, 1, 2, 3], WAYS.to_vec()));
-        assert!(numbers().all(|mode| (mode < 4) == Mode::numbered(mode).is_ok()) && WAYS == [0]);
+        assert!(numbers().all(|mode| (mode < 4) == Mode::numbered(mode).is_ok()) && WAYS == [0, 1]);
         assert!((0..4).all(|mode| Mode::numbered(mode).map(Mode::number) == Ok(mode)));
     }
 

@@ -8,7 +8,7 @@ use crate::made::Head;
 use crate::ownership::{judge, judge_sheet, member_double_area, Judged, PointsInside};
 use crate::plane::{double_area, sides};
 use crate::reading::{read, read_in, read_or_fault, Fault, Mode};
-use crate::repair::{boundary_sides, repair};
+use crate::repair::{boundary_sides, repair, WAYS};
 use crate::table::{frame, Table};
 use crate::turning::turned;
 use crate::writing::write;
@@ -138,8 +138,24 @@ fn labels(near: &[Vec<usize>], settled: &[u8]) -> Vec<usize> {
     labels
 }
 
-/// Repair by labels: a gap takes the largest number of those triangles that share a side with one of its label.
-fn repaired(triangles: &[Triangle], owners: &[u64]) -> Option<Vec<u8>> {
+/// The largest whole number whose square is at most this one, bit by bit.
+fn root(square: i64) -> i64 {
+    (0..26)
+        .rev()
+        .fold(0, |root, bit| if (root + (1 << bit)) * (root + (1 << bit)) <= square { root + (1 << bit) } else { root })
+}
+
+/// The lengths of the sides of the region that have a triangle of this number across, added up.
+fn shared_length(triangles: &[Triangle], settled: &[u8], region: &[usize], number: u8) -> i64 {
+    let across = |(u, v): Side| (0..triangles.len()).find(|other| sides(&triangles[*other]).contains(&(v, u)));
+    let touches = |side: &Side| across(*side).is_some_and(|other| settled[other] == number);
+    let own = region.iter().flat_map(|place| sides(&triangles[*place])).filter(touches);
+    own.map(|(u, v)| root((v.x - u.x) * (v.x - u.x) + (v.y - u.y) * (v.y - u.y))).sum()
+}
+
+/// Repair by labels: of the numbers of those triangles that share a side with one of its label a gap takes the largest, or in way 1
+/// the largest of those with the greatest shared length.
+fn repaired(triangles: &[Triangle], owners: &[u64], way: u32) -> Option<Vec<u8>> {
     let smallest = |set: &u64| (1..=64).find(|k| set >> (k - 1) & 1 == 1).unwrap_or(0);
     let settled: Vec<u8> = owners.iter().map(smallest).collect();
     let places = || 0..triangles.len();
@@ -148,16 +164,30 @@ fn repaired(triangles: &[Triangle], owners: &[u64]) -> Option<Vec<u8>> {
     let labels = labels(&near, &settled);
     let mut numbers = settled.clone();
     for gap in places().filter(|place| settled[*place] == 0) {
-        let region = places().filter(|place| labels[*place] == labels[gap]);
-        numbers[gap] = region.flat_map(|place| &near[place]).map(|other| settled[*other]).max()?;
+        let region: Vec<usize> = places().filter(|place| labels[*place] == labels[gap]).collect();
+        let found: Vec<u8> = region
+            .iter()
+            .flat_map(|place| &near[*place])
+            .map(|other| settled[*other])
+            .filter(|number| *number > 0)
+            .collect();
+        let longest = |number: u8| if way == 0 { 0 } else { shared_length(triangles, &settled, &region, number) };
+        let most = found.iter().map(|number| longest(*number)).max()?;
+        numbers[gap] = found.into_iter().filter(|number| longest(*number) == most).max()?;
     }
     settled.iter().any(|number| *number > 0).then_some(numbers)
 }
 
-fn compare_repairs(name: &str, judged: &Judged) {
+/// Repair agrees in each way; whether the two differ.
+fn compare_repairs(name: &str, judged: &Judged) -> bool {
+    let [priority, longest] = WAYS.map(|way| compare_repair(name, judged, way));
+    priority != longest
+}
+
+fn compare_repair(name: &str, judged: &Judged, way: u32) -> Option<Vec<u8>> {
     let triangles = &judged.table.triangles;
-    let numbers = repair(&judged.table, &judged.owners);
-    assert_eq!(numbers.clone().ok(), repaired(triangles, &judged.owners), "{name}");
+    let numbers = repair(&judged.table, &judged.owners, way);
+    assert_eq!(numbers.clone().ok(), repaired(triangles, &judged.owners, way), "{name}");
     for number in 1..=numbers.iter().flatten().copied().max().unwrap_or(0) {
         let numbers = numbers.as_ref().unwrap();
         let mut listed = boundary_sides(&judged.table, numbers, number);
@@ -166,6 +196,7 @@ fn compare_repairs(name: &str, judged: &Judged) {
         let given = boundary_of_set(triangles, owned).into_iter().filter(|(_, times)| *times == 1);
         assert_eq!(listed, given.map(|(side, _)| side).collect::<Vec<Side>>(), "{name}");
     }
+    numbers.ok()
 }
 
 /// Every polygon has a double area above 0. Their double areas, from their corners, add up to those of the triangles by their
@@ -212,17 +243,20 @@ fn rules_and_judging_agree_on_small_sheets() {
 
 #[test]
 fn repair_and_areas_agree_on_small_sheets() {
-    let mut sheets = 0;
+    let (mut sheets, mut in_two_ways) = (0, 0);
     for (name, input) in inputs() {
         let Ok(judged) = judge_sheet(Mode::PRESENT, &input) else { continue };
         compare_areas(&name, &judged);
-        assert_eq!(repair(&judged.table, &judged.owners).is_err(), judged.sheet.polygons.is_empty(), "{name}");
+        for way in WAYS {
+            assert_eq!(repair(&judged.table, &judged.owners, way).is_err(), judged.sheet.polygons.is_empty(), "{name}");
+        }
         if judged.owners.len() <= 40 {
-            compare_repairs(&name, &judged);
+            in_two_ways += usize::from(compare_repairs(&name, &judged));
             sheets += 1;
         }
     }
     assert!(sheets > 3_000, "{sheets} sheets");
+    assert!(in_two_ways > 80, "{in_two_ways} sheets repaired in two ways");
 }
 
 /// A ring's double area: those of the triangles from its first point to each of its edges, added up.

@@ -247,7 +247,7 @@ mod tests {
         for seed in 0..6_000 {
             let input = generate(seed);
             without_ground += usize::from(answer(Entry::OwnerSets, &input, 0).0 % 256 == 21);
-            let (mode, way) = (seed as u32 % 7, seed as u32 % 11 / 9 * 2);
+            let (mode, way) = (seed as u32 % 7, seed as u32 % 11 / 5);
             for entry in [Entry::Owners, Entry::Boundary(seed as u32 % 5), Entry::OwnersBy(mode, way)] {
                 codes.insert(answer(entry, &input, 20).0 % 256);
             }

@@ -99,6 +99,8 @@ pub enum Way {
     /// Each goes to the largest number beside it.
     #[default]
     Priority = 0,
+    /// Each goes to the number that it shares the longest boundary with, on equal lengths to the larger.
+    Longest = 1,
 }
 
 /// Why a call was refused: a code, and the member, triangle or polygon that it is about, 0 for none.

@@ -201,6 +201,17 @@ fn modes_and_ways_that_are_not_known_are_refused() {
 }
 
 #[test]
+fn a_gap_with_one_neighbour_goes_to_it_in_either_way() {
+    // The strip sheet's gap has polygon 2 alone beside it.
+    let sheet = example("strip.wkb");
+    assert_eq!(owners_by(&sheet, Mode::Present, Way::Longest), owners(&sheet));
+    assert_eq!(boundary_by(&sheet, Mode::Present, Way::Longest, 1), boundary(&sheet, 1));
+    assert_eq!(listing_by(&sheet, Mode::Present, Way::Longest), listing(&sheet));
+    assert_eq!(Way::default(), Way::Priority);
+    assert_eq!([Way::Priority as u32, Way::Longest as u32], [0, 1]);
+}
+
+#[test]
 fn a_refusal_changes_no_lent_byte_and_an_answer_only_its_own() {
     let sheet = example("strip.wkb");
     let mut lent = [9; 10];

@@ -25,6 +25,7 @@ fn the_header_defines_the_same() {
         ("MODE_BLOB", sheets::Mode::Blob as usize),
         ("MODE_OLDER_BLOB", sheets::Mode::OlderBlob as usize),
         ("WAY_PRIORITY", sheets::Way::Priority as usize),
+        ("WAY_LONGEST", sheets::Way::Longest as usize),
         ("STACK", sheets::STACK),
         ("READ_CAP", sheets::READ_CAP),
     ];

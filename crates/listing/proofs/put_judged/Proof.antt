@@ -10,7 +10,7 @@ use lib.Seq.{length-take-le, take-at}
 use Rattle.lent_text.specs.Putting.{Put}
 use Rattle.judged.specs.Judged.{Judged}
 use Rattle.judged.specs.Held.{JudgedHeld}
-use Rattle.judged.proofs.Standing.{few, pairs, polygons-at}
+use Rattle.judged.proofs.Standing.{few, pairs, polygons-at, table-in}
 use Rattle.listing_lines.specs.Printing.{Figures, linesBy}
 use Rattle.listing.specs.Held.{AreasOf}
 use Rattle.listing.specs.Listing.{listingOf}
@@ -49,10 +49,10 @@ areas-room : (c : tie.After-lay-areas) (rest : List ℕ) → many (start c) ≤ 
 areas-room c rest = omega (arith, length-append (areas c) rest, areas-many c)
 
 abbrev owners : tie.After-repair → List ℕ
-owners c = c .repair .last .1 .1 .1 .0
+owners c = c .repair .last .1 .1 .1 .1 .0
 
 owners-many : (c : tie.After-repair) → length (owners c) ≡ many (start (laid c))
-owners-many c = c .repair .kept .1 .1 .1 .0 ∙ length-take-le _ _ (few (start (laid c) .pre .0 .1))
+owners-many c = c .repair .kept .1 .1 .1 .1 .0 ∙ length-take-le _ _ (few (start (laid c) .pre .0 .1))
 
 owners-room : (c : tie.After-repair) (rest : List ℕ) → many (start (laid c)) ≤ length (owners c ++ rest)
 owners-room c rest = omega (arith, length-append (owners c) rest, owners-many c)
@@ -72,7 +72,7 @@ lay-areas-requires : tie.Need-lay-areas-requires
 lay-areas-requires c κs = let w = entry (c .before) .pre .0 in (w .0, _, _, w .1, sym (length-take-le _ _ (few (w .1))))
 
 repair-requires : tie.Need-repair-requires
-repair-requires c κs = let w = start (c .before .before) .pre .0 .1 in (pairs w, length-take-le _ _ (few w), few w)
+repair-requires c κs = let w = start (c .before .before) .pre .0 .1 in (pairs w, length-take-le _ _ (few w), few w, table-in w)
 
 put-lines-requires : tie.Need-put-lines-requires
 put-lines-requires c κs =

@@ -12,6 +12,7 @@ use Rattle.lent.specs.Answered.{Outcome, Answered}
 use Rattle.lent.proofs.Answered.{answered-refusal, answered-short, answered-bytes}
 use Rattle.lent_text.proofs.Texts.{put-over}
 use Rattle.owners_marks.specs.Sets.{ownersOf}
+use Rattle.repair_longest.specs.Held.{lengthsHeld}
 use Rattle.repair_answers.specs.Answers.{numbersAfter}
 use Rattle.repair_answers.specs.Held.{ownersOutcome}
 use Rattle.repair_answers.proofs.After.{not-repaired, goes-on, as-many, room, front}
@@ -20,17 +21,17 @@ use Rattle.repair_owner_bytes.proofs.owners.Tie as tie
 
 -- ---- places: the entry of the function, the call of `repair`, and the owner numbers that it left
 abbrev start : tie.After-repair → tie.Start
-start c = c .before .before .before .before .before
+start c = c .before .before .before .before .before .before
 
 abbrev call : tie.After-enum-told → tie.After-repair
 call c = c .before .before .before
 
 abbrev owners : tie.After-enum-told → List ℕ
-owners c = call c .repair .last .1 .1 .1 .0
+owners c = call c .repair .last .1 .1 .1 .1 .0
 
 -- What is answered.
 abbrev comes : tie.Start → Outcome
-comes s = ownersOutcome (s .args .way) (now (s .args .opposite)) (map ownersOf (now (s .args .sets)))
+comes s = let a = s .args in ownersOutcome (a .way) (lengthsHeld (now (a .table)) (length (now (a .opposite)))) (now (a .opposite)) (map ownersOf (now (a .sets)))
 
 many : (c : tie.After-enum-told) → length (owners c) ≡ length (now (start (call c) .args .sets))
 many c = as-many (call c .repair .ensures) (c .enum-told .given .1) ∙ length-map (now (start (call c) .args .sets)) ownersOf
@@ -39,7 +40,7 @@ outcome : (c : tie.After-enum-told) → comes (start (call c)) ≡ numbersAfter 
 outcome c = goes-on (call c .repair .ensures) (c .enum-told .given .1) numbersAfter
 
 repair-requires : tie.Need-repair-requires
-repair-requires c κs = let p = c .before .before .before .before .pre in (p .0, length-take-le _ _ (omega arith), p .1)
+repair-requires c κs = let p = c .before .before .before .before .before .pre in (p .0, length-take-le _ _ (omega arith), p .1, p .2)
 
 returns : tie.Need-returns
 returns c = let k = c .before in answered-refusal _ _ _ _ (not-repaired (k .before .before .before .repair .ensures) numbersAfter (k .repaired .given .1))

@@ -17,6 +17,7 @@ use Rattle.lent.specs.Answered.{Outcome, Answered}
 use Rattle.lent.proofs.Answered.{answered-refusal, answered-short, answered-bytes}
 use Rattle.lent_little.specs.Held.{sideHeld, SideIn}
 use Rattle.lent_little.proofs.Bytes.{side-length, all-length}
+use Rattle.repair_longest.specs.Held.{lengthsHeld}
 use Rattle.repair_answers.specs.Held.{sidesHeld, sidesOutcome}
 use Rattle.repair_answers.proofs.After.{not-repaired, goes-on, as-many, room, front, sides-in}
 use Rattle.repair_side_bytes.proofs.boundary.Statement.{statement}
@@ -30,11 +31,11 @@ abbrev call : tie.After-enum-told → tie.After-repair
 call c = c .before .before .before
 
 abbrev owners : tie.After-enum-told → List ℕ
-owners c = call c .repair .last .1 .1 .1 .0
+owners c = call c .repair .last .1 .1 .1 .1 .0
 
 -- What is answered.
 abbrev comes : tie.Start → Outcome
-comes s = let a = s .args in sidesOutcome (now (a .numbers)) (a .way) (now (a .opposite)) (map ownersOf (now (a .sets))) (a .polygon)
+comes s = let a = s .args in sidesOutcome (now (a .numbers)) (a .way) (lengthsHeld (now (a .numbers)) (length (now (a .opposite)))) (now (a .opposite)) (map ownersOf (now (a .sets))) (a .polygon)
 
 -- The sides that are answered for the owner numbers.
 abbrev sides-for : tie.Start → List ℕ → Outcome
@@ -84,7 +85,7 @@ sixteen : (c : tie.After-boundary) → let h = sideHeld (now (entry c .args .num
 sixteen c = let n = now (entry c .args .numbers) in all-length 16 (sideHeld n) (side-length n) (sides c)
 
 repair-requires : tie.Need-repair-requires
-repair-requires c κs = let p = c .before .before .before .before .before .pre in (p .0, length-take-le _ _ (omega (arith, p .1)), p .1)
+repair-requires c κs = let p = c .before .before .before .before .before .pre in (p .0, length-take-le _ _ (omega (arith, p .1)), p .1, p .2)
 
 returns : tie.Need-returns
 returns c = let k = c .before in let r = k .before .before .before in answered-refusal _ _ _ _ (not-repaired (r .repair .ensures) (sides-for (start r)) (k .repaired .given .1))
@@ -103,7 +104,7 @@ write-sides-requires c κs =
     let b = c .before .before .before .before in
     let s = entry b in
     let a = s .args in (
-      subst (All (SideIn (now (a .numbers)))) (sym (sides-front b _)) (sides-in (now (a .numbers)) (now (a .opposite)) (owners (owned b)) (a .polygon) (length (now (a .sets))) (s .pre .0) (s .pre .2)),
+      subst (All (SideIn (now (a .numbers)))) (sym (sides-front b _)) (sides-in (now (a .numbers)) (now (a .opposite)) (owners (owned b)) (a .polygon) (length (now (a .sets))) (s .pre .0) (s .pre .2 .room)),
       subst (λ l. 16 * length l ≤ length (now (a .out))) (sym (sides-front b _)) (omega (arith, count b)),
     )
 

@@ -7,7 +7,7 @@ use Rattle.lent.specs.Answered.{Answered}
 use Rattle.lent.proofs.Answered.{answered-refusal}
 use Rattle.judged.specs.Judged.{Judged}
 use Rattle.judged.specs.Held.{JudgedHeld}
-use Rattle.judged.proofs.Standing.{few, pairs, polygons-at}
+use Rattle.judged.proofs.Standing.{few, pairs, polygons-at, table-in}
 use Rattle.outcomes.proofs.Judged.{none-asked, past-asked, boundary-on}
 use Rattle.sheets_answers.proofs.boundary.Statement.{statement}
 use Rattle.sheets_answers.proofs.boundary.Tie as tie
@@ -30,7 +30,7 @@ cast-boundary : tie.Need-cast-boundary
 cast-boundary c = let w = told (start (c .before .before)) in omega (arith, polygons-at w .1, w .held .few-polygons, c .if2 .left)
 
 boundary-requires : tie.Need-boundary-requires
-boundary-requires c κs = let w = told (start (c .before .before .before)) in (pairs w, few w, omega (arith, polygons-at w .0))
+boundary-requires c κs = let w = told (start (c .before .before .before)) in (pairs w, few w, table-in w)
 
 returns-3 : tie.Need-returns-3
 returns-3 c = λ j w.

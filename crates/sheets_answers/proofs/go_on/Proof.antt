@@ -4,7 +4,7 @@ use borrow.Author.Needs.{needs}
 use denote.Ref.{now}
 use Rattle.lent.specs.Answered.{Answered}
 use Rattle.judged.specs.Judged.{Judged}
-use Rattle.judged.proofs.Standing.{few, pairs}
+use Rattle.judged.proofs.Standing.{few, pairs, table-in}
 use Rattle.outcomes.specs.Entries.{goesOn}
 use Rattle.outcomes.proofs.Judged.{owner-sets-on, owners-on}
 use Rattle.sheets_answers.proofs.go_on.Statement.{statement}
@@ -14,7 +14,7 @@ owner-sets-requires : tie.Need-owner-sets-requires
 owner-sets-requires c κs = few (c .before .before .before .before .before .before .before .pre .1)
 
 owners-requires : tie.Need-owners-requires
-owners-requires c κs = let w = c .before .before .before .before .before .before .before .pre .1 in (pairs w, few w)
+owners-requires c κs = let w = c .before .before .before .before .before .before .before .pre .1 in (pairs w, few w, table-in w)
 
 returns : tie.Need-returns
 returns c = λ j w.
@@ -28,7 +28,7 @@ returns-2 c = λ j w.
     let r = c .before .before .owners in
     let e = c .before .before .before .before in
     let a = e .before .before .before .before .before .before .args in
-    subst (λ o. Answered o (now (a .out)) (r .result) (r .last .1 .1 .1 .0)) (owners-on w (a .way) ∙ sym (ap (λ x. goesOn (a .way) x j) (e .enum-told2 .given .1))) (r .ensures)
+    subst (λ o. Answered o (now (a .out)) (r .result) (r .last .1 .1 .1 .1 .0)) (owners-on w (a .way) ∙ sym (ap (λ x. goesOn (a .way) x j) (e .enum-told2 .given .1))) (r .ensures)
 
 returns-3 : tie.Need-returns-3
 returns-3 c = λ j w.

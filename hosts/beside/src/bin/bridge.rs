@@ -97,6 +97,7 @@ fn mode(number: u32) -> Mode {
 fn way(number: u32) -> Way {
     match number {
         0 => Way::Priority,
+        1 => Way::Longest,
         _ => panic!("the crate has no way {number}"),
     }
 }

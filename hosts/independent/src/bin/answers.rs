@@ -1,5 +1,5 @@
-//! `answers MODE FILE..`: prints for each file its verdict in the mode of this number, `clean`, `repair` or `refused` code item,
-//! with the position behind it where reading refuses, then the listing of the whole file, then an empty line.
+//! `answers MODE WAY FILE..`: prints for each file its verdict in the mode of this number, `clean`, `repair` or `refused` code item,
+//! with the position behind it where reading refuses, then the listing of the whole file in this way, then an empty line.
 
 use independent::bridge::Function;
 use independent::entries::{Entry, Input};
@@ -11,7 +11,9 @@ use std::path::Path;
 fn main() {
     let mut out = std::io::BufWriter::new(std::io::stdout().lock());
     let mut words = std::env::args_os().skip(1);
-    let mode = words.next().and_then(|word| word.to_str()?.parse().ok()).expect("usage: answers MODE FILE..");
+    let mut number =
+        || words.next().and_then(|word| word.to_str()?.parse().ok()).expect("usage: answers MODE WAY FILE..");
+    let (mode, way) = (number(), number());
     for path in words {
         let bytes = std::fs::read(&path).unwrap_or_else(|error| panic!("{}: {error}", Path::new(&path).display()));
         let input = Input::new(&bytes);
@@ -20,7 +22,8 @@ fn main() {
             Ok(_) => String::from("repair"),
             Err(refusal) => refused(mode, &bytes, refusal),
         };
-        let listing = input.whole(Entry::ListingBy(mode, 0)).expect("a listing is refused for want of room only").bytes;
+        let listing =
+            input.whole(Entry::ListingBy(mode, way)).expect("a listing is refused for want of room only").bytes;
         writeln!(out, "{verdict}")
             .and_then(|()| out.write_all(&listing))
             .and_then(|()| writeln!(out))

@@ -22,6 +22,8 @@ pub enum Outcome {
     Sets(Vec<u64>),
     /// Each triangle has this number after repair.
     Repaired(Vec<u8>),
+    /// Each triangle has the first of these numbers after repair by priority, and the second by the longest shared boundary.
+    InWays(Vec<u8>, Vec<u8>),
     /// It is refused as a sheet, by this code and item.
     Refused(u8, u64),
     /// It can't be read as a sheet, by this code and item, and the position of the field at fault is this one.
@@ -84,6 +86,11 @@ impl Cases {
     /// A sheet with these numbers after repair.
     pub fn repaired(&mut self, name: impl Into<String>, sheet: Geometry, numbers: &[u8]) {
         self.add(name, sheet, Outcome::Repaired(numbers.to_vec()));
+    }
+
+    /// A sheet with these numbers after repair by priority, and those by the longest shared boundary.
+    pub fn in_ways(&mut self, name: impl Into<String>, sheet: Geometry, priority: &[u8], longest: &[u8]) {
+        self.add(name, sheet, Outcome::InWays(priority.to_vec(), longest.to_vec()));
     }
 
     /// A sheet that is refused.

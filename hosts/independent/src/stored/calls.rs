@@ -36,10 +36,18 @@ const BLOBS: [&str; 3] = [
     "the strip sheet clockwise in a blob",
 ];
 
+/// Sheets that are repaired in way 1 besides.
+const IN_WAYS: [&str; 3] = [
+    "a gap that shares 4 with 1 and with 2 goes to 2",
+    "a gap that shares 6 with 1 and 2 with 2 goes to 1",
+    "three sides on one line are 3 long, as long as a straight one, which has the larger number",
+];
+
 /// The calls: of each entry document 01's examples and the sheets of the folder examples/, the strip sheet with every room; and
 /// short cases of each code. The boundary entry is asked for polygon 1, and on the strip sheet for all others; the position entry
 /// in mode 0, and on the strip sheet in others. The entries in a mode are called in the older one with the sheets above and the
-/// shortest case of each code, and on the strip sheet in the present one and in modes and ways that aren't known. In the modes of
+/// shortest case of each code, and on the strip sheet in the present one, in way 1, and in modes and ways that aren't known. The entries
+/// in way 1 are called with the cases of it named above. In the modes of
 /// blobs they are called with the blobs above and the shortest of each code, of those that go on from a judged sheet of the codes
 /// that blobs alone have. The blob writer has all its cases.
 fn calls() -> Vec<Call> {
@@ -66,7 +74,11 @@ fn calls() -> Vec<Call> {
     let strip = cases::named("strip");
     let asked = [0, 2, 3, 65, 257, 1 << 31, u32::MAX].map(Entry::Boundary);
     let modes = [1, 7, 256, u32::MAX].map(Entry::Position);
-    let by = [(0, 0, 1), (7, 0, 1), (u32::MAX, 2, 1), (0, 2, 1), (1, u32::MAX, 3)].into_iter().flat_map(by);
+    for case in named(&IN_WAYS) {
+        let entries = [Entry::OwnersBy(0, 1), Entry::BoundaryBy(1, 1, 1), Entry::ListingBy(0, 1)];
+        calls.extend(entries.map(|entry| Call { entry, input: case.input.clone(), room: 200 }));
+    }
+    let by = [(0, 0, 1), (0, 1, 1), (7, 0, 1), (u32::MAX, 2, 1), (0, 2, 1), (1, u32::MAX, 3)].into_iter().flat_map(by);
     let on_strip = asked.into_iter().chain(modes).chain(by);
     calls.extend(on_strip.map(|entry| Call { entry, input: strip.clone(), room: 200 }));
     calls

@@ -82,7 +82,8 @@ impl Calls {
         entries.extend(match (&self.inputs, every) {
             (_, true) => [self.by_all(place, &asked), vec![Entry::WriteBlob]].concat(),
             (Inputs::Largest(_), _) => {
-                [vec![Entry::Position(0), Entry::WriteBlob], in_mode(1), in_mode(2), in_mode(3)].concat()
+                let longest = vec![Entry::OwnersBy(0, 1), Entry::BoundaryBy(0, 1, asked[0]), Entry::ListingBy(0, 1)];
+                [vec![Entry::Position(0), Entry::WriteBlob], longest, in_mode(1), in_mode(2), in_mode(3)].concat()
             }
             (Inputs::Cases(_), _) if of_blobs => [in_mode(2), in_mode(3)].concat(),
             _ if !with_blob => self.by_some(place, asked[0]),

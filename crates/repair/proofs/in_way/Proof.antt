@@ -1,23 +1,26 @@
--- `repair::by_priority` meets its contract: the settled numbers stand at the front of the work list and, where there is an owner at all, in the owners,
+-- `repair::in_way` meets its contract: the settled numbers stand at the front of the work list and, where there is an owner at all, in the owners,
 -- which then are the numbers given. Assumes nothing.
 use mathlib.Core.Path.{sym, _∙_, ap, subst}
 use mathlib.Core.Bool.{false}
 use mathlib.Core.List.{List, map}
-use Prim.Native.Nat.{ℕ}
+use Prim.Native.Nat.{ℕ, _≤_}
 use native.Mathlib.Omega.{arith}
 use denote.Ref.{now}
 use lib.ListN.{length, replicate}
 use lib.Seq.{length-take-le}
+use Rattle.whole.specs.Sums.{All}
 use Rattle.owners_marks.specs.Sets.{ownersOf}
 use Rattle.repair_regions.specs.Spreading.{Paired}
+use Rattle.repair_longest.specs.Held.{TableIn}
+use Rattle.repair.proofs.Filling.{all-small}
 use Rattle.repair.proofs.Giving.{laid-room, laid-front, length-front, unmarked-front, nobody-owns, not-all-given, all-are-given}
 use borrow.Author.Needs.{needs}
-use Rattle.repair.proofs.by_priority.Statement.{statement}
-use Rattle.repair.proofs.by_priority.Tie as tie
+use Rattle.repair.proofs.in_way.Statement.{statement}
+use Rattle.repair.proofs.in_way.Tie as tie
 
 -- ---- places: the entry of the function, the settled numbers laid down, and that there is an owner
 abbrev start : tie.After-settle → tie.Start
-start c = c .before .before .before .before .before
+start c = c .before .before .before .before .before .before
 
 abbrev laid : tie.Else1 → tie.After-settle
 laid c = c .before .before .before .before
@@ -66,6 +69,9 @@ give-all-requires c κs =
     let n = length (sets k) in
     let long = length-front (sets k) _ _ (k .settle .ensures) in (
       subst (Paired (now (s .args .opposite))) (sym long) (s .pre .0),
+      subst (TableIn (now (s .args .table))) (sym long) (s .pre .3),
+      subst (All (λ x. x ≤ 64)) (sym (laid-front (sets k) _ _ (k .settle .ensures))) (all-small (sets k)),
+      omega (arith, long, s .pre .2),
       unmarked-front n 1024 (s .pre .2) ∙ ap (λ k. replicate k false) (sym long),
       length-take-le n _ (omega (arith, s .pre .2)) ∙ sym long,
       b .before .before .settle2 .ensures ∙ sym (laid-front (sets k) _ _ (k .settle .ensures)),
@@ -94,8 +100,8 @@ returns-3 c =
     all-are-given _ (now (start k .args .opposite)) (map ownersOf (sets k)) (laid-front (sets k) _ _ (k .settle .ensures)) (sym (e .before .none-owned .ensures) ∙ e .if1 .left)
     (gave f .give-all .ensures) (f .first-ungiven .ensures .0) (omega (arith, c .if2 .left))
 
-pub by-priority-spec : {M : Type 1} → statement M
-by-priority-spec =
+pub in-way-spec : {M : Type 1} → statement M
+in-way-spec =
     tie.close
     (tie.spec
     (λ c. search needs)

@@ -1,0 +1,2 @@
+-- The lengths of edges.
+pub mod Lengths

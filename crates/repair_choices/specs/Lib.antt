@@ -1,0 +1,4 @@
+-- The choices for gap regions.
+pub mod Choices
+pub mod Choosing
+pub mod Adding

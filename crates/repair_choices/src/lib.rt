@@ -1,0 +1,1 @@
+// No function: the choices for gap regions, by definitions and laws alone.

@@ -1,0 +1,2 @@
+-- The laws of lengths off held numbers.
+pub mod Held

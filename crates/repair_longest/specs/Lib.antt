@@ -1,0 +1,2 @@
+-- The longest shared boundary, as the code finds it.
+pub mod Held

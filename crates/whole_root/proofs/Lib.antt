@@ -1,0 +1,3 @@
+-- The laws of the whole root.
+pub mod Newton
+pub mod OnlyRoot

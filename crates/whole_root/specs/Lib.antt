@@ -1,0 +1,2 @@
+-- The whole root.
+pub mod Root
