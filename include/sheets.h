@@ -10,7 +10,7 @@
        The input and the lent bytes must not overlap.
      - It answers one number, item * 256 + code: SHEETS_CODE(answer), SHEETS_ITEM(answer).
      - Code 0 is success: the answer's bytes stand at the front of the lent bytes, and the lent bytes past them keep their values. The item says how
-       long the answer is (in bytes, triangles or sides, as said below).
+       long the answer is (in bytes, triangles, polygons or sides, as said below).
      - Any other code is a refusal: no lent byte has changed.
      - It always returns, reads only the input, writes only lent bytes, and allocates nothing. It keeps no state, so any number of threads may call any
        entries at once. A thread that calls needs 640 KiB of free stack, SHEETS_STACK.
@@ -47,8 +47,9 @@ extern "C" {
 #define SHEETS_POSITION_ROOM 16
 #define SHEETS_BLOB_NUMBERS_ROOM 65804
 #define SHEETS_WRITE_BLOB_ROOM 158330
+#define SHEETS_AREAS_ROOM 512
 
-/* What the entries whose names end in _by are asked by, and sheet_position: the mode, how the sheet is read, and the way, how gaps are filled. */
+/* What the entries whose names end in _by are asked by, sheet_position and sheet_areas: the mode, how the sheet is read, and the way, how gaps are filled. */
 #define SHEETS_MODE_PRESENT 0
 #define SHEETS_MODE_OLDER 1
 #define SHEETS_MODE_BLOB 2
@@ -110,7 +111,7 @@ uint64_t sheet_position(const uint8_t *sheet, size_t sheet_len, uint32_t mode, u
    stands a header of `GP`, version 0, a flags byte, a reference-system number and perhaps an envelope, the least and the greatest x and then y as doubles. It is
    looked at field by field, with 1 where one is cut short, 50 for other letters, another version, and flags of empty, extended or reserved geometries, and 51,
    at the flags, for an envelope kind above 1. These come before the sheet is read. The envelope must be the table's frame as numbers, else 52: right
-   after 12, and in sheet_numbers_by right after reading. In these modes "1 to 8" below is "50, 51, 1 to 8", and the numbers of sheet_numbers_by have the
+   after 12, and in sheet_numbers_by and sheet_areas right after reading. In these modes "1 to 8" below is "50, 51, 1 to 8", and the numbers of sheet_numbers_by have the
    reference-system number before them: SHEETS_BLOB_NUMBERS_ROOM.
 
    SHEETS_WAY_PRIORITY gives each gap region to the largest number across its sides, SHEETS_WAY_LONGEST to the number that it shares the greatest length with: the
@@ -122,6 +123,12 @@ uint64_t sheet_position(const uint8_t *sheet, size_t sheet_len, uint32_t mode, u
 
 /* sheet_numbers in a mode. Refusals: 57, 1 to 8, 52, 40. */
 uint64_t sheet_numbers_by(const uint8_t *sheet, size_t sheet_len, uint32_t mode, uint8_t *out, size_t out_len);
+
+/* The double area of each polygon, in number order, as a little-endian int64 in square millimetres: the sum over the edges from p to q of all its rings, as
+   turned in the mode, of px * qy - qx * py. It is worked out from the corners alone, whether or not the table keeps the rules and a set of triangles carries the
+   polygon; it is negative where clockwise rings prevail. Of a polygon that is carried it is the sum of its triangles' double areas, and stands in the listing.
+   Item: polygons. Refusals: 57, 1 to 8, 52, 40. */
+uint64_t sheet_areas(const uint8_t *sheet, size_t sheet_len, uint32_t mode, uint8_t *out, size_t out_len);
 
 /* sheet_owner_sets in a mode. Refusals: 57, 1 to 8, 10, 11, 12, 52, 20/21, 40. */
 uint64_t sheet_owner_sets_by(const uint8_t *sheet, size_t sheet_len, uint32_t mode, uint8_t *out, size_t out_len);

@@ -248,6 +248,16 @@ inline Position position_by(const std::uint8_t *sheet, std::size_t size, Mode mo
 
 inline Position position(const std::uint8_t *sheet, std::size_t size) { return position_by(sheet, size, Mode::Present); }
 
+// The double area of each polygon, from its corners alone, in a mode, and in the present one.
+inline Answer<std::vector<std::int64_t>> areas_by(const std::uint8_t *sheet, std::size_t size, Mode mode) {
+    Answer<Bytes> answer = inside::call(SHEETS_AREAS_ROOM, 8, [&](std::uint8_t *lent, std::size_t room) {
+        return sheet_areas(inside::given(sheet, size), size, inside::number(mode), lent, room);
+    });
+    return {answer.refusal, inside::numbers_of<std::int64_t>(answer.value)};
+}
+
+inline Answer<std::vector<std::int64_t>> areas(const std::uint8_t *sheet, std::size_t size) { return areas_by(sheet, size, Mode::Present); }
+
 // Is it a refusal of reading, whose position can be asked for?
 inline bool of_reading(Refusal refusal) { return refusal.code >= 1 && refusal.code <= 8; }
 

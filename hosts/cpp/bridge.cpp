@@ -1,10 +1,10 @@
 // Calls the entries, or the functions of sheets.hpp, as the frames of standard input say, for a program that has the library on the other side of a pipe.
 // A frame: u8 function (0 numbers, 1 write, 2 owner sets, 3 owners, 4 boundary, 5 listing, 6 verdict, 7 position; 8 numbers, 9 owner sets, 10 owners, 11 boundary,
-// 12 listing by what is asked; 13 write blob), u32 LE mode, u32 LE way, u32 LE polygon, u32 LE input length, u32 LE room, input. The answer: u64 LE packed answer,
+// 12 listing by what is asked; 13 write blob, 14 areas), u32 LE mode, u32 LE way, u32 LE polygon, u32 LE input length, u32 LE room, input. The answer: u64 LE packed answer,
 // then the lent bytes after the entry's call; lent byte i is (i * 131 + 17) % 256 before it. No bytes, of the input or lent, come with a null pointer. Bytes before
 // and behind the lent ones are watched: where a call changes one, or one of its input, the program ends with status 2.
 // With a room of 2^32 - 1 a function of sheets.hpp is called. The answer: u64 LE packed answer, u32 LE length, its value in so many bytes, none for a refusal; a
-// verdict is one byte, 0 clean or 1 repair, and in mode 0 a verdict and a position are those without a mode. With --stack N the calls are made on a thread with N KiB
+// verdict is one byte, 0 clean or 1 repair, and in mode 0 a verdict, a position and areas are those without a mode. With --stack N the calls are made on a thread with N KiB
 // of stack.
 #include <sheets.hpp>
 
@@ -51,6 +51,7 @@ std::uint64_t call(const Asked &asked, const std::uint8_t *input, std::size_t si
         case 11: return sheet_boundary_by(input, size, asked.mode, asked.way, asked.polygon, lent, room);
         case 12: return sheet_listing_by(input, size, asked.mode, asked.way, lent, room);
         case 13: return sheet_write_blob(input, size, lent, room);
+        case 14: return sheet_areas(input, size, asked.mode, lent, room);
     }
     std::exit(3);
 }
@@ -178,6 +179,7 @@ Value wrapped(const Asked &asked, const std::uint8_t *input, std::size_t size) {
         case 11: return counted(sheets::boundary_by(input, size, mode, way, asked.polygon), false);
         case 12: return listing(sheets::listing_by(input, size, mode, way));
         case 13: return counted(sheets::write_blob(numbers_in(input, size)), true);
+        case 14: return counted(present ? sheets::areas(input, size) : sheets::areas_by(input, size, mode), false);
     }
     std::exit(3);
 }

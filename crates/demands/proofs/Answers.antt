@@ -2,7 +2,6 @@
 -- which item; and exactly when it comes to a refusal, with which code and item. That the lent bytes suffice, or else 40, is in Room. Assumes nothing.
 use mathlib.Core.Path.{_≡_, refl, sym, _∙_, ap, subst}
 use mathlib.Core.Logic.{_↔_, Iff·trans, _⊎_, inl, inr, ⊎-elim}
-use mathlib.Core.Bool.{Bool}
 use mathlib.Core.List.{List, _++_, map, flatMap}
 use mathlib.Core.Option.{Option, none, some, Option·none-ne-some}
 use Prim.Native.Nat.{ℕ, _+_, _^_, _<_}
@@ -10,6 +9,7 @@ use native.Mathlib.Omega.{arith}
 use lib.Dec.{T}
 use lib.ListN.{length, length-append}
 use Rattle.whole.specs.Sums.{All}
+use Rattle.plane.specs.Members.{doubleArea}
 use Rattle.lent.specs.Stages.{Answer, value, refused, andThen, needing}
 use Rattle.lent.specs.Answered.{Written, Outcome, bytes}
 use Rattle.lent.proofs.Stages.{value-refused, same-refusal, chain-value, chain-refused}
@@ -31,9 +31,9 @@ use Rattle.judged.proofs.Stages.{matched-value, matched-refused}
 use Rattle.listing_lines.specs.Lines.{refusedLine}
 use Rattle.listing.specs.Listing.{listingOf, listing as listingBy}
 use Rattle.outcomes.specs.declared.Wanted.the-variants.{OwnerSets, Owners, Boundary}
-use Rattle.outcomes.specs.Entries.{u64, telling, formOf, firstOf, formOutcome, onSheet, ownedSides, sidesAfter, goesOn}
+use Rattle.outcomes.specs.Entries.{u64, telling, formOf, firstOf, formOutcome, readTo, i64, areasOutcome, onSheet, ownedSides, sidesAfter, goesOn}
 use Rattle.demands.specs.Answers.{OtherEnvelope, HasOwners, HasSets, Refused, NoOwner, Repaired, KnownWay, OnSheet}
-use Rattle.demands.specs.Entries.{numbers, position, write, writeBlob, ownerSets, owners, boundary, listing, outcomeOf}
+use Rattle.demands.specs.Entries.{numbers, areas, position, write, writeBlob, ownerSets, owners, boundary, listing, outcomeOf}
 use Rattle.demands.proofs.Envelopes.{framed-no, framed-yes}
 use Rattle.demands.proofs.Sets.{with-owners, has-owners, has-sets, owners-each, is-refused, answers-on, refuses-on}
 use Rattle.demands.proofs.After.{same-answer, after-answers, after-refuses, asked-passes, asked-refused}
@@ -74,49 +74,67 @@ module _ (mode : ℕ) (s : List ℕ) (all : All (λ b. b < 256) s) where
   abbrev header : Option Opened
   header = headerBy mode s
 
-  abbrev then-form : Sheet → Outcome
-  then-form n = andThen (matched (framed header n)) (λ _. formOutcome header n)
+  -- The sheet is read, no envelope around it is another than the frame, and it goes on to what is written.
+  module _ (next : Sheet → Outcome) where
+    abbrev then-next : Sheet → Outcome
+    then-next n = andThen (matched (framed header n)) (λ _. next n)
+
+    reads-answers : (w : Written) → (readTo next mode s ≡ value w) ↔ ((n : Sheet) × (readBy members mode s ≡ value n) × (OtherEnvelope mode s n → ⊥) × (next n ≡ value w))
+    reads-answers w = (
+      λ e.
+          let (n, p, q) = chain-value (readBy members mode s) then-next w .0 e in
+          let (u, m, r) = chain-value (matched (framed header n)) (λ _. next n) w .0 q in
+          (n, p, framed-yes mode s n .0 (matched-value (framed header n) .0 m), r),
+      λ (n, p, o, r). chain-value (readBy members mode s) then-next w .1 (n, p, chain-value (matched (framed header n)) (λ _. next n) w .1 (tt, matched-value (framed header n) .1 (framed-yes mode s n .1 o), r)),
+    )
+
+    reads-refuses : ((n : Sheet) (code item : ℕ) → next n ≡ refused code item → ⊥) → (code item : ℕ)
+        → (readTo next mode s ≡ refused code item) ↔ ((readBy members mode s ≡ refused code item) ⊎ ((code ≡ 52) × (item ≡ 0) × (n : Sheet) × (readBy members mode s ≡ value n) × OtherEnvelope mode s n))
+    reads-refuses never code item = (to, from)
+      where
+        to : andThen (readBy members mode s) then-next ≡ refused code item → (readBy members mode s ≡ refused code item) ⊎ ((code ≡ 52) × (item ≡ 0) × (n : Sheet) × (readBy members mode s ≡ value n) × OtherEnvelope mode s n)
+        to e = elim (chain-refused (readBy members mode s) then-next code item .0 e) [
+          | inl p ↦ inl p
+          | inr (n, p, q) ↦ elim (chain-refused (matched (framed header n)) (λ _. next n) code item .0 q) [
+            | inl m ↦ let (b, c, i) = matched-refused (framed header n) code item .0 m in inr (c, i, n, p, framed-no mode s n .0 b)
+            | inr (u, m, r) ↦ absurd (never n code item r)
+          ]
+        ]
+
+        from : (readBy members mode s ≡ refused code item) ⊎ ((code ≡ 52) × (item ≡ 0) × (n : Sheet) × (readBy members mode s ≡ value n) × OtherEnvelope mode s n) → andThen (readBy members mode s) then-next ≡ refused code item
+        from (inl p) = chain-refused (readBy members mode s) then-next code item .1 (inl p)
+        from (inr (c, i, n, p, o)) =
+            chain-refused (readBy members mode s) then-next code item .1 (inr (n, p, chain-refused (matched (framed header n)) (λ _. next n) code item .1 (inl (matched-refused (framed header n) code item .1 (framed-no mode s n .1 o, c, i)))))
 
   form-length : (n : Sheet) → length (firstOf header) + length (formOf n) ≡ length (firstOf header ++ formOf n)
   form-length n = sym (length-append (firstOf header) (formOf n))
 
   pub numbers-answers : (item : ℕ) (l : List ℕ)
       → (outcomeOf (numbers mode) s ≡ bytes item l) ↔ ((n : Sheet) × (readBy members mode s ≡ value n) × (OtherEnvelope mode s n → ⊥) × (l ≡ firstOf (headerBy mode s) ++ formOf n) × (item ≡ length l))
-  numbers-answers item l = (to, from)
-    where
-      w : Written
-      w = record { item = item; text = l }
-
-      to : andThen (readBy members mode s) then-form ≡ value w → (n : Sheet) × (readBy members mode s ≡ value n) × (OtherEnvelope mode s n → ⊥) × (l ≡ firstOf header ++ formOf n) × (item ≡ length l)
-      to e =
-          let (n, p, q) = chain-value (readBy members mode s) then-form w .0 e in
-          let (u, m, r) = chain-value (matched (framed header n)) (λ _. formOutcome header n) w .0 q in
-          let (f, i) = same-answer (length (firstOf header) + length (formOf n)) item (firstOf header ++ formOf n) l .0 r in
-          (n, p, framed-yes mode s n .0 (matched-value (framed header n) .0 m), f, i ∙ form-length n ∙ ap length (sym f))
-
-      from : (n : Sheet) × (readBy members mode s ≡ value n) × (OtherEnvelope mode s n → ⊥) × (l ≡ firstOf header ++ formOf n) × (item ≡ length l) → andThen (readBy members mode s) then-form ≡ value w
-      from (n, p, o, f, i) =
-          let r = same-answer (length (firstOf header) + length (formOf n)) item (firstOf header ++ formOf n) l .1 (f, i ∙ ap length f ∙ sym (form-length n)) in
-          chain-value (readBy members mode s) then-form w .1 (n, p, chain-value (matched (framed header n)) (λ _. formOutcome header n) w .1 (tt, matched-value (framed header n) .1 (framed-yes mode s n .1 o), r))
+  numbers-answers item l = Iff·trans (reads-answers (formOutcome header) (record { item = item; text = l })) (
+    λ (n, p, o, r). let (f, i) = same-answer (length (firstOf header) + length (formOf n)) item (firstOf header ++ formOf n) l .0 r in (n, p, o, f, i ∙ form-length n ∙ ap length (sym f)),
+    λ (n, p, o, f, i). (n, p, o, same-answer (length (firstOf header) + length (formOf n)) item (firstOf header ++ formOf n) l .1 (f, i ∙ ap length f ∙ sym (form-length n))),
+  )
 
   -- Otherwise it gives the refusal of reading, and then 52 for an envelope that isn't the frame: "After reading, the numbers entry has only 40."
   pub numbers-refuses : (code item : ℕ)
       → (outcomeOf (numbers mode) s ≡ refused code item) ↔ ((readBy members mode s ≡ refused code item) ⊎ ((code ≡ 52) × (item ≡ 0) × (n : Sheet) × (readBy members mode s ≡ value n) × OtherEnvelope mode s n))
-  numbers-refuses code item = (to, from)
-    where
-      to : andThen (readBy members mode s) then-form ≡ refused code item → (readBy members mode s ≡ refused code item) ⊎ ((code ≡ 52) × (item ≡ 0) × (n : Sheet) × (readBy members mode s ≡ value n) × OtherEnvelope mode s n)
-      to e = elim (chain-refused (readBy members mode s) then-form code item .0 e) [
-        | inl p ↦ inl p
-        | inr (n, p, q) ↦ elim (chain-refused (matched (framed header n)) (λ _. formOutcome header n) code item .0 q) [
-          | inl m ↦ let (b, c, i) = matched-refused (framed header n) code item .0 m in inr (c, i, n, p, framed-no mode s n .0 b)
-          | inr (u, m, r) ↦ absurd (value-refused _ code item r)
-        ]
-      ]
+  numbers-refuses = reads-refuses (formOutcome header) (λ n code item e. value-refused _ code item e)
 
-      from : (readBy members mode s ≡ refused code item) ⊎ ((code ≡ 52) × (item ≡ 0) × (n : Sheet) × (readBy members mode s ≡ value n) × OtherEnvelope mode s n) → andThen (readBy members mode s) then-form ≡ refused code item
-      from (inl p) = chain-refused (readBy members mode s) then-form code item .1 (inl p)
-      from (inr (c, i, n, p, o)) =
-          chain-refused (readBy members mode s) then-form code item .1 (inr (n, p, chain-refused (matched (framed header n)) (λ _. formOutcome header n) code item .1 (inl (matched-refused (framed header n) code item .1 (framed-no mode s n .1 o, c, i)))))
+  -- ---- sheet_areas
+  -- "The viewer asks for every polygon's double area": it answers exactly if the bytes are read as a sheet and no envelope around it is another than the frame, and then
+  -- the double area of each polygon, in number order, as a little-endian i64; the item is the number of polygons. Nothing is judged.
+  pub areas-answers : (item : ℕ) (l : List ℕ)
+      → (outcomeOf (areas mode) s ≡ bytes item l) ↔ ((n : Sheet) × (readBy members mode s ≡ value n) × (OtherEnvelope mode s n → ⊥) × (l ≡ flatMap i64 (map doubleArea (n .polygons))) × (item ≡ length (n .polygons)))
+  areas-answers item l = Iff·trans (reads-answers areasOutcome (record { item = item; text = l })) (
+    λ (n, p, o, r). let (f, i) = same-answer (length (n .polygons)) item (flatMap i64 (map doubleArea (n .polygons))) l .0 r in (n, p, o, f, i),
+    λ (n, p, o, f, i). (n, p, o, same-answer (length (n .polygons)) item (flatMap i64 (map doubleArea (n .polygons))) l .1 (f, i)),
+  )
+
+  -- It is refused as the numbers entry is.
+  pub areas-refuses : (code item : ℕ)
+      → (outcomeOf (areas mode) s ≡ refused code item) ↔ ((readBy members mode s ≡ refused code item) ⊎ ((code ≡ 52) × (item ≡ 0) × (n : Sheet) × (readBy members mode s ≡ value n) × OtherEnvelope mode s n))
+  areas-refuses = reads-refuses areasOutcome (λ n code item e. value-refused _ code item e)
 
   -- ---- sheet_position
   -- It answers for every sequence of bytes and in every mode, with two numbers of 8 bytes each; the item is 16.

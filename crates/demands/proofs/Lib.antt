@@ -4,6 +4,7 @@ pub mod Reading
 pub mod Writing
 pub mod Answers
 pub mod Positions
+pub mod Areas
 pub mod Older
 pub mod Blobs
 pub mod Room

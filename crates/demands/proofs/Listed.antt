@@ -16,10 +16,10 @@ use Rattle.sheet.proofs.Refusals.{Lawful}
 use Rattle.sheet_form.specs.Numbers.{members}
 use Rattle.sheet_modes.specs.Modes.{readBy}
 use Rattle.demands.specs.Refusals.{Row, alone, rows, inRow, Listed}
-use Rattle.demands.specs.Entries.{Entry, numbers, position, write, writeBlob, ownerSets, owners, boundary, listing, outcomeOf}
+use Rattle.demands.specs.Entries.{Entry, numbers, areas, position, write, writeBlob, ownerSets, owners, boundary, listing, outcomeOf}
 use Rattle.demands.specs.Answers.{Refused, unread, breaks-A, breaks-B, breaks-C, unframed, not-carried, no-ground}
 use Rattle.demands.proofs.Stages.{read-lawful, no-higher, read-limits}
-use Rattle.demands.proofs.Answers.{numbers-refuses, position-refuses-nothing, write-refuses, write-blob-refuses, owner-sets-refuses, owners-refuses, boundary-refuses, listing-refuses-nothing}
+use Rattle.demands.proofs.Answers.{numbers-refuses, areas-refuses, position-refuses-nothing, write-refuses, write-blob-refuses, owner-sets-refuses, owners-refuses, boundary-refuses, listing-refuses-nothing}
 
 -- ---- the table
 any-at : {A : Type 0} (p : A → Bool) (d : A) (l : List A) (i : ℕ) → i < length l → T (p (getD l i d)) → T (any p l)
@@ -115,6 +115,7 @@ module _ (mode : ℕ) (s : List ℕ) (all : All (λ b. b < 256) s) where
 module _ (s : List ℕ) (all : All (λ b. b < 256) s) where
   pub outcome-listed : (e : Entry) (code item : ℕ) → outcomeOf e s ≡ refused code item → Listed code item
   outcome-listed (numbers mode) code item q = ⊎-elim (unread-listed mode s all code item) (λ h. alone-listed 19 (omega arith) refl (h .0) (h .1)) (numbers-refuses mode s all code item .0 q)
+  outcome-listed (areas mode) code item q = ⊎-elim (unread-listed mode s all code item) (λ h. alone-listed 19 (omega arith) refl (h .0) (h .1)) (areas-refuses mode s all code item .0 q)
   outcome-listed (position mode) code item q = absurd (position-refuses-nothing mode s all code item q)
   outcome-listed write code item q = let (c, i, f) = write-refuses s all code item .0 q in alone-listed 16 (omega arith) refl c i
   outcome-listed writeBlob code item q = let (c, i, f) = write-blob-refuses s all code item .0 q in alone-listed 16 (omega arith) refl c i

@@ -42,9 +42,9 @@ use Rattle.outcomes.specs.Entries.{firstOf, formOf, withRoom, telling, sheetPos
 use Rattle.outcomes.proofs.Position.{position-refused, nowhere}
 use Rattle.demands.specs.Answers.{OtherEnvelope, Refused, unread, breaks-A, breaks-B, breaks-C, unframed, not-carried, no-ground}
 use Rattle.demands.specs.Positions.{NextAfter, Enough, OfReading, ReadsSheet}
-use Rattle.demands.specs.Entries.{Entry, numbers, position, write, writeBlob, ownerSets, owners, boundary, listing, outcomeOf}
+use Rattle.demands.specs.Entries.{Entry, numbers, areas, position, write, writeBlob, ownerSets, owners, boundary, listing, outcomeOf}
 use Rattle.demands.proofs.Stages.{not-between, not-above, read-opened}
-use Rattle.demands.proofs.Answers.{numbers-answers, numbers-refuses, owner-sets-refuses, owners-refuses, boundary-refuses}
+use Rattle.demands.proofs.Answers.{numbers-answers, numbers-refuses, areas-refuses, owner-sets-refuses, owners-refuses, boundary-refuses}
 
 -- ---- a step
 -- A step tells the place that it began at,
@@ -172,6 +172,10 @@ module _ (mode : ℕ) (s : List ℕ) (all : All (λ b. b < 256) s) (code item : 
   same-in-all (numbers m) r = subst (λ k. (outcomeOf (numbers k) s ≡ refused code item) ↔ (readBy members mode s ≡ refused code item)) (sym r) (
     λ q. ⊎-elim (λ e. e) (λ h. high-other 52 (omega arith) (omega arith) (h .0)) (numbers-refuses mode s all code item .0 q),
     λ e. numbers-refuses mode s all code item .1 (inl e),
+  )
+  same-in-all (areas m) r = subst (λ k. (outcomeOf (areas k) s ≡ refused code item) ↔ (readBy members mode s ≡ refused code item)) (sym r) (
+    λ q. ⊎-elim (λ e. e) (λ h. high-other 52 (omega arith) (omega arith) (h .0)) (areas-refuses mode s all code item .0 q),
+    λ e. areas-refuses mode s all code item .1 (inl e),
   )
   same-in-all (position m) r = absurd r
   same-in-all write r = absurd r

@@ -3,17 +3,20 @@
 use mathlib.Core.Path.{_≡_, refl, sym, _∙_, ap}
 use mathlib.Core.Logic.{_↔_, inl, inr, ⊎-elim}
 use mathlib.Core.Bool.{Bool, true, false, cond}
-use mathlib.Core.List.{List, [], _∷_, _++_, flatMap}
+use mathlib.Core.List.{List, [], _∷_, _++_, map, flatMap}
 use mathlib.Core.Option.{Option, none, some}
 use Prim.Native.Nat.{ℕ, zero, suc, _+_, _*_, _%_, _≤_, _<_}
 use native.Mathlib.Omega.{arith}
 use borrow.Author.Tests.{leb-true, leb-false, lt-leb}
 use lib.Dec.{leb}
-use lib.IntN.{pos}
-use lib.ListN.{length, length-append}
+use lib.IntN.{ℤ, pos}
+use lib.ListN.{length, length-append, length-map}
+use mir.Syntax.{w64}
+use mir.Val.{ofZ}
 use Rattle.whole.specs.Sums.{All}
 use Rattle.whole.proofs.Sums.{all-++}
 use Rattle.plane.specs.Points.{Edge}
+use Rattle.plane.specs.Members.{doubleArea}
 use Rattle.lent.specs.Stages.{value, refused}
 use Rattle.lent.specs.Answered.{Outcome, bytes, answerOf, Answered}
 use Rattle.lent.proofs.Stages.{value-refused}
@@ -35,17 +38,17 @@ use Rattle.sheet_written.proofs.Held.{read-sheet-is}
 use Rattle.sheet_written.proofs.Largest.{largest, largest-fits, largest-numbers, largest-written}
 use Rattle.sheet_written.proofs.Sized.{written-small}
 use Rattle.sheet_written.proofs.Trip.{written-bytes, round-trip, form-small}
-use Rattle.outcomes.specs.Entries.{firstOf, formOf, ownedSides}
+use Rattle.outcomes.specs.Entries.{firstOf, formOf, i64, ownedSides}
 use Rattle.outcomes.proofs.Sized.{line-most, listing-most, sides-most}
 use Rattle.demands.specs.Answers.{Refused, unread, breaks-A, breaks-B, breaks-C, unframed, not-carried, no-ground}
-use Rattle.demands.specs.Entries.{Entry, numbers, position, write, writeBlob, ownerSets, owners, boundary, listing, outcomeOf, roomOf}
+use Rattle.demands.specs.Entries.{Entry, numbers, areas, position, write, writeBlob, ownerSets, owners, boundary, listing, outcomeOf, roomOf}
 use Rattle.demands.proofs.Stages.{of-reading, not-between, read-limits}
 use Rattle.demands.proofs.Envelopes.{no-envelope}
 use Rattle.demands.proofs.Sets.{with-owners, owners-each}
 use Rattle.demands.proofs.After.{same-answer}
 use Rattle.demands.proofs.Blobs.{header-back, sheet-back, never-52}
 use Rattle.demands.proofs.Listed.{code-fits, outcome-listed}
-use Rattle.demands.proofs.Answers.{numbers-answers, numbers-refuses, position-answers, position-refuses-nothing, write-answers, write-refuses, write-blob-answers, write-blob-refuses, owner-sets-answers, owner-sets-refuses, owners-answers, owners-refuses, boundary-answers, boundary-refuses, listing-answers, listing-refuses-nothing}
+use Rattle.demands.proofs.Answers.{numbers-answers, numbers-refuses, areas-answers, areas-refuses, position-answers, position-refuses-nothing, write-answers, write-refuses, write-blob-answers, write-blob-refuses, owner-sets-answers, owner-sets-refuses, owners-answers, owners-refuses, boundary-answers, boundary-refuses, listing-answers, listing-refuses-nothing}
 
 -- The number in front of a blob's numbers has 4 bytes, and in front of a sheet's there is none.
 first-length : (mode : ℕ) (s : List ℕ) → 65_800 + length (firstOf (headerBy mode s)) ≤ roomOf (numbers mode)
@@ -56,6 +59,12 @@ first-length (suc (suc mode)) s = rw (lt-leb (suc (suc mode)) 1 (omega arith)) (
     go : (o : Option Opened) → 65_800 + length (firstOf o) ≤ 65_804
     go none = omega arith
     go (some r) = omega (arith, length-bytes 4 (r .number))
+
+-- The bytes of double areas, 8 each.
+areas-length : (l : List ℤ) → length (flatMap i64 l) ≡ 8 * length l
+unfolding flatMap
+areas-length [] = omega arith
+areas-length (z ∷ l) = omega (arith, length-append (i64 z) (flatMap i64 l), set-length (ofZ w64 z), areas-length l)
 
 -- The bytes of sides, 16 each.
 sides-length : (l : List Edge) → length (flatMap sideBytes l) ≡ 16 * length l
@@ -80,6 +89,7 @@ module _ (mode : ℕ) (s : List ℕ) (all : All (λ b. b < 256) s) where
 module _ (s : List ℕ) (all : All (λ b. b < 256) s) where
   not-forty : (e : Entry) (code item : ℕ) → outcomeOf e s ≡ refused code item → code ≡ 40 → ⊥
   not-forty (numbers mode) code item q z = ⊎-elim (λ p. unread-other mode s all code item p z) (λ h. omega (arith, h .0)) (numbers-refuses mode s all code item .0 q)
+  not-forty (areas mode) code item q z = ⊎-elim (λ p. unread-other mode s all code item p z) (λ h. omega (arith, h .0)) (areas-refuses mode s all code item .0 q)
   not-forty (position mode) code item q z = position-refuses-nothing mode s all code item q
   not-forty write code item q z = omega (arith, write-refuses s all code item .0 q .0)
   not-forty writeBlob code item q z = omega (arith, write-blob-refuses s all code item .0 q .0)
@@ -95,6 +105,9 @@ module _ (s : List ℕ) (all : All (λ b. b < 256) s) where
       let (n, r, o, e, i) = numbers-answers mode s all item l .0 q in
       let first = firstOf (headerBy mode s) in
       omega (arith, ap length e, length-append first (formOf n), first-length mode s, form-length (numbersOf n), form-small members (omega arith) n (by-fits members s (omega arith) all mode n r))
+  fits (areas mode) item l q =
+      let (n, r, o, e, i) = areas-answers mode s all item l .0 q in
+      omega (arith, ap length e, areas-length (map doubleArea (n .polygons)), length-map (n .polygons) doubleArea, read-limits mode s all n r .few-polygons)
   fits (position mode) item l q = omega (arith, position-answers mode s all item l q .1)
   fits write item l q = let (n, t, f, e, i) = write-answers s all item l .0 q in omega (arith, ap length e, written-small members n t)
   fits writeBlob item l q = let (b, t, k, f, e, i) = write-blob-answers s all item l .0 q in omega (arith, ap length e, blob-length b, written-small members (b .sheet) t)

@@ -4,12 +4,13 @@ use mathlib.Core.List.{List}
 use Prim.Native.Nat.{ℕ}
 use lib.Dec.{leb}
 use Rattle.lent.specs.Answered.{Outcome}
-use Rattle.outcomes.specs.Entries.{sheetNumbersBy, sheetPosition, sheetWrite, sheetWriteBlob, sheetOwnerSetsBy, sheetOwnersBy, sheetBoundaryBy, sheetListingBy}
+use Rattle.outcomes.specs.Entries.{sheetNumbersBy, sheetAreas, sheetPosition, sheetWrite, sheetWriteBlob, sheetOwnerSetsBy, sheetOwnersBy, sheetBoundaryBy, sheetListingBy}
 
 -- An entry, with what is asked of it besides the bytes: the mode of reading, the way to fill gaps, and for the boundary entry a polygon by its number. The entries
 -- that take no mode and no way are those in mode 0 and way 0.
 pub data Entry : Type 0 where
   numbers : (mode : ℕ) → Entry
+  areas : (mode : ℕ) → Entry
   position : (mode : ℕ) → Entry
   write : Entry
   writeBlob : Entry
@@ -21,6 +22,7 @@ pub data Entry : Type 0 where
 -- What the entry comes to for the bytes that it is given.
 abbrev pub outcomeOf : Entry → List ℕ → Outcome
 outcomeOf (numbers mode) s = sheetNumbersBy mode s
+outcomeOf (areas mode) s = sheetAreas mode s
 outcomeOf (position mode) s = sheetPosition mode s
 outcomeOf write s = sheetWrite s
 outcomeOf writeBlob s = sheetWriteBlob s
@@ -32,6 +34,7 @@ outcomeOf (listing mode way) s = sheetListingBy mode way s
 -- The room of an entry: lent so many bytes, it never answers 40. A blob's numbers have one more than a sheet's, 4 bytes.
 abbrev pub roomOf : Entry → ℕ
 roomOf (numbers mode) = cond (leb mode 1) 65_800 65_804
+roomOf (areas mode) = 512
 roomOf (position mode) = 16
 roomOf write = 158_290
 roomOf writeBlob = 158_330

@@ -10,7 +10,7 @@ use Rattle.wkb.specs.declared.Step.the-variants.{Geometry, Ring, Point, End, Re
 use Rattle.wkb.specs.Steps.{toldAt}
 use Rattle.lent.specs.Stages.{value, refused}
 use Rattle.lent.specs.Answered.{Outcome}
-use Rattle.demands.specs.Entries.{Entry, numbers, position, write, writeBlob, ownerSets, owners, boundary, listing}
+use Rattle.demands.specs.Entries.{Entry, numbers, areas, position, write, writeBlob, ownerSets, owners, boundary, listing}
 
 -- The next place is within the bytes, and as far from where the step began as the field is long: 9 bytes a header, 4 a ring's count, 16 a point.
 abbrev pub NextAfter : List ℕ → Cursor → Step → Type 0
@@ -34,6 +34,7 @@ pub data OfReading : ℕ → Type 0 where
 -- The entries that read a sheet in the mode and hand a refusal of reading on as their own.
 abbrev pub ReadsSheet : ℕ → Entry → Type 0
 ReadsSheet mode (numbers m) = m ≡ mode
+ReadsSheet mode (areas m) = m ≡ mode
 ReadsSheet mode (position m) = ⊥
 ReadsSheet mode write = ⊥
 ReadsSheet mode writeBlob = ⊥

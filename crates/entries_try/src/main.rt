@@ -60,6 +60,14 @@ fn position(input: &[u8], lent: &mut [u8]) -> u64 {
     sheets::sheet_position(&input[4..], number(input, 0) as u32, lent)
 }
 
+// What the entry for double areas answers; the mode stands before the sheet, as a little-endian u32.
+fn areas(input: &[u8], lent: &mut [u8]) -> u64 {
+    if input.len() < 4 {
+        return 255;
+    }
+    sheets::sheet_areas(&input[4..], number(input, 0) as u32, lent)
+}
+
 // What the entries answer that take what is asked as numbers: 7 numbers, 8 owner sets, 9 owners, 10 boundary, 11 listing. The mode, the way and the number of
 // the polygon stand before the sheet, each as a little-endian u32, also where the entry doesn't take it.
 fn by(entry: u8, input: &[u8], lent: &mut [u8]) -> u64 {
@@ -79,7 +87,7 @@ fn by(entry: u8, input: &[u8], lent: &mut [u8]) -> u64 {
     }
 }
 
-// What the entry answers: 0 numbers, 1 write, 2 owner sets, 3 owners, 4 boundary, 5 listing, 6 position, 7 to 11 those by a mode and a way, 12 write blob. Any
+// What the entry answers: 0 numbers, 1 write, 2 owner sets, 3 owners, 4 boundary, 5 listing, 6 position, 7 to 11 those by a mode and a way, 12 write blob, 13 areas. Any
 // other answers 255, a code that no entry gives.
 fn answer(entry: u8, input: &[u8], lent: &mut [u8]) -> u64 {
     match entry {
@@ -91,6 +99,7 @@ fn answer(entry: u8, input: &[u8], lent: &mut [u8]) -> u64 {
         5 => sheets::sheet_listing(input, lent),
         6 => position(input, lent),
         12 => sheets::sheet_write_blob(input, lent),
+        13 => areas(input, lent),
         _ => by(entry, input, lent),
     }
 }

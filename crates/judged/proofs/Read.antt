@@ -18,6 +18,7 @@ use Rattle.owners.specs.Owners.{judgeFrom}
 use Rattle.owners.proofs.Polygons.{all-carried, marks-fit}
 use Rattle.sheet_form.specs.Numbers.{Sheet, members}
 use Rattle.sheet.specs.Held.{SheetHeld}
+use Rattle.sheet_turned.specs.Rings.{RingsFit}
 use Rattle.sheet_modes.specs.Modes.{readBy}
 use Rattle.judged_sets.specs.declared.Owning.{Owning}
 use Rattle.judged_sets.specs.declared.Owning.the-variants.{Sets, Refused as RefusedOwning}
@@ -28,7 +29,7 @@ use Rattle.judged.specs.Held.{judgeSheet, JudgedHeld, JudgedAs}
 use Rattle.judged.proofs.Stages.{framed-value, framed-refused, polygons-value, sheet-value, sheet-refused, whole-around, judged-value, judged-refused}
 
 -- ---- what the judging of the sheet read comes to
-module _ (mode : ℕ) (s : List ℕ) (n : Sheet) (r : readBy members mode s ≡ value n) (size : ℕ) (numbers : List ℕ) (held : SheetHeld members n (take size numbers)) (opposite l : List ℕ) where
+module _ (mode : ℕ) (s : List ℕ) (n : Sheet) (r : readBy members mode s ≡ value n) (size : ℕ) (numbers : List ℕ) (held : SheetHeld members n (take size numbers)) (rings : RingsFit n) (opposite l : List ℕ) where
   abbrev whole : Bool
   whole = whole-around mode s n
 
@@ -50,6 +51,7 @@ module _ (mode : ℕ) (s : List ℕ) (n : Sheet) (r : readBy members mode s ≡ 
         record {
           size = size;
           held = held;
+          rings = rings;
           comes = c;
           crossed = w .crossed;
           sets-are = sym v ∙ sets-are (length (n .table)) marks;

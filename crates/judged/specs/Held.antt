@@ -11,6 +11,7 @@ use Rattle.owners_marks.specs.Marks.{setOf}
 use Rattle.owners_marks.specs.Sets.{ownersOf}
 use Rattle.sheet_form.specs.Numbers.{Sheet, members}
 use Rattle.sheet.specs.Held.{SheetHeld}
+use Rattle.sheet_turned.specs.Rings.{RingsFit}
 use Rattle.judged_sets.specs.declared.Owning.{Owning}
 use Rattle.judged_sets.specs.declared.Owning.the-variants.{Sets, Refused}
 use Rattle.judged.specs.Judged.{Judged, judgeFramed, judgedSheet}
@@ -19,11 +20,12 @@ use Rattle.judged.specs.Judged.{Judged, judgeFramed, judgedSheet}
 abbrev pub judgeSheet : Sheet → Answer Judged
 judgeSheet n = judgeFramed true n
 
--- The judged sheet j: it stands at the front of `numbers`, its owner sets are `sets`, each the 64-bit form of a triangle's owners, and `opposite` has
+-- The judged sheet j: it stands at the front of `numbers`, its rings are closed and within the limits, its owner sets are `sets`, each the 64-bit form of a triangle's owners, and `opposite` has
 -- for each side of its table the number of its reverse.
 pub record JudgedHeld (j : Judged) (numbers opposite sets : List ℕ) : Type 0 where
   pub size : ℕ
   pub held : SheetHeld members (j .sheet) (take size numbers)
+  pub rings : RingsFit (j .sheet)
   pub comes : judgeSheet (j .sheet) ≡ value j
   pub crossed : opposite ≡ opposites (sidesOf (j .sheet .table))
   pub sets-are : sets ≡ map setOf (j .owners)

@@ -1,2 +1,2 @@
--- The answer of the entry for owner sets.
+-- Numbers of 64 bits as an answer.
 pub mod Sets

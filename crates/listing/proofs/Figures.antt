@@ -1,5 +1,5 @@
--- The figures of a judged sheet, told of its table and polygons. Before repair the areas of a polygon's marked triangles add up to the
--- polygon's double area, after it to that of the triangles it owns; the gaps and the overlaps are marked by their owners, and the sheet
+-- The figures of a judged sheet, told of its table and polygons. A polygon's double area is the sum of its triangles', and after repair the areas of its
+-- marked triangles add up to that of the triangles it owns; the gaps and the overlaps are marked by their owners, and the sheet
 -- is clean exactly if there is neither. The books balance: the polygons' double areas against the owners of each triangle, the frame's against
 -- the triangles with a single owner, the gaps and the overlaps.
 -- The idea: the owners are made of the set that carries each polygon, so that a polygon's bits are its set, whose double areas add up to
@@ -8,12 +8,14 @@
 use mathlib.Core.Path.{_≡_, refl, sym, _∙_, ap, ap₂}
 use mathlib.Core.Bool.{Bool, true, false, cond}
 use mathlib.Core.List.{List, [], _∷_, map}
-use Prim.Native.Nat.{ℕ, zero, suc, _+_, _<_}
+use Prim.Native.Nat.{ℕ, zero, suc, _+_}
 use native.Mathlib.Omega.{arith}
 use borrow.Author.Tests.{ne-eqb}
 use lib.Dec.{eqb}
 use lib.IntN.{ℤ, pos, _+ℤ_, _*ℤ_, *ℤ-zero, pos-+ℤ-pos}
-use lib.ListN.{length, getD, replicate, length-map}
+use lib.ListN.{length, replicate, length-map}
+use mir.Syntax.{w64}
+use mir.Val.{ofZ}
 use Rattle.whole.specs.Sums.{All, every, sum}
 use Rattle.whole.specs.Polynomials.{con, _:+_, _:*_, _:=_}
 use Rattle.whole.proofs.Ring.{solve}
@@ -25,16 +27,16 @@ use Rattle.table.specs.Sets.{chosen}
 use Rattle.owners_marks.specs.declared.Standing.{Standing}
 use Rattle.owners_marks.specs.declared.Standing.the-variants.{Gap, Single, Overlap}
 use Rattle.owners_marks.specs.Marks.{withOwner, ownersFrom, standingBy, setOf}
-use Rattle.owners_marks.specs.Sets.{ownersOf, standingOf, ownerSets}
-use Rattle.owners_marks.proofs.Owners.{length-owners-from, sets-are}
+use Rattle.owners_marks.specs.Sets.{ownersOf, standingOf}
+use Rattle.owners_marks.proofs.Owners.{length-owners-from}
 use Rattle.repair_regions.specs.Regions.{from}
 use Rattle.repair_sides.specs.Sides.{trianglesOwned}
 use Rattle.repair_sides.proofs.Bounding.{frame-area}
 use Rattle.listing_figures.specs.declared.Figure.{Figure}
-use Rattle.listing_figures.specs.declared.Figure.the-variants.{Gaps, Overlaps, Before, After}
+use Rattle.listing_figures.specs.declared.Figure.the-variants.{Gaps, Overlaps, After}
 use Rattle.listing_figures.specs.Figures.{counts, marksOf, total}
 use Rattle.listing_figures.specs.Standings.{isGap, isSingle, isOverlap, owing}
-use Rattle.listing_figures.proofs.Totals.{total-area, chosen-many, after-marks, before-marks}
+use Rattle.listing_figures.proofs.Totals.{total-area, chosen-many, after-marks}
 use Rattle.owners.proofs.Carried.{answered}
 use Rattle.owners.proofs.Polygons.{EachCarried, marks-fit}
 use Rattle.judged.specs.Judged.{Judged}
@@ -42,16 +44,16 @@ use Rattle.judged.specs.Held.{judgeSheet}
 use Rattle.judged.proofs.Repaired.{rules, made, owners-many}
 
 -- ---- lists
-map-same : {A B : Type 0} (f g : A → B) → ((a : A) → f a ≡ g a) → (l : List A) → map f l ≡ map g l
-map-same f g h [] = refl
-map-same f g h (a ∷ l) = ap₂ (λ b m. b ∷ m) (h a) (map-same f g h l)
+-- What comes of each in two steps.
+map-through : {A B C : Type 0} (f : B → C) (g : A → B) (h : A → C) → ((a : A) → h a ≡ f (g a)) → (l : List A) → map h l ≡ map f (map g l)
+map-through f g h e [] = refl
+map-through f g h e (a ∷ l) = ap₂ (λ c m. c ∷ m) (e a) (map-through f g h e l)
 
--- A list by the numbers of its places.
-map-numbered : {A B : Type 0} (f : A → B) (g : ℕ → B) (d : A) (i : ℕ) (l : List A) → ((k : ℕ) → k < length l → f (getD l k d) ≡ g (k + i)) → map f l ≡ map g (from i (length l))
-map-numbered f g d i [] h = refl
-map-numbered f g d i (a ∷ l) h =
-    ap₂ (λ b m. b ∷ m) (h 0 (omega arith) ∙ ap g (omega arith))
-    (map-numbered f g d (suc i) l (λ k w. h (suc k) (omega arith) ∙ ap g (omega arith)))
+-- Double areas that are natural numbers are told by their bits.
+bits-told : (l : List Member) (areas : List ℕ) → map doubleArea l ≡ map pos areas → map pos (map (λ (m : Member). ofZ w64 (doubleArea m)) l) ≡ map doubleArea l
+bits-told [] areas e = refl
+bits-told (m ∷ l) [] e = absurd (omega (arith, ap length e))
+bits-told (m ∷ l) (a ∷ areas) e = ap₂ (λ z k. z ∷ k) (let f : doubleArea m ≡ pos a = cc in ap (λ z. pos (ofZ w64 z)) f ∙ sym f) (bits-told l areas (cc))
 
 -- ---- the owners of each triangle
 none-owing : (table : List Triangle) (n : ℕ) → owing table (replicate n []) ≡ pos 0
@@ -185,35 +187,20 @@ module _ {j : Judged} (e : judgeSheet (j .sheet) ≡ value j) where
       +ℤ sum double (chosen (j .sheet .table) (map (λ o. isOverlap (standingBy o)) (j .owners)))
   frame-balance = sym (frame-area table (rules e .2)) ∙ three-kinds table (j .owners) (owners-many e)
 
+  -- The double areas of the polygons are natural numbers, those of their sets: as the bits of an i64 they are these numbers.
+  pub polygons-told : (areas : List ℕ) → map pos areas ≡ map double (j .sheet .table) → map pos (map (λ (m : Member). ofZ w64 (doubleArea m)) (j .sheet .polygons)) ≡ map doubleArea (j .sheet .polygons)
+  polygons-told areas are =
+      bits-told polygons (map (λ s. total (chosen areas s)) marks)
+      (carried-areas table (rules e .0) (rules e .1) polygons marks (made e .each) ∙ map-through pos (λ s. total (chosen areas s)) _ (λ s. sym (total-area table areas are s)) marks)
+
   module _ (areas sets owners : List ℕ) (are : map pos areas ≡ map double table) (held : sets ≡ map setOf (j .owners)) (each : length owners ≡ length table) where
-    -- The total of a figure.
-    abbrev figure : Figure → ℤ
-    figure f = pos (total (chosen areas (marksOf f sets owners)))
-
-    -- Before repair: the double area of each polygon is the total of its figure.
-    pub polygons-before : map doubleArea (j .sheet .polygons) ≡ map (λ k. pos (total (chosen areas (marksOf (Before k) sets owners)))) (from 1 (length (j .sheet .polygons)))
-    polygons-before =
-        carried-areas table (rules e .0) (rules e .1) polygons marks (made e .each)
-        ∙ map-numbered (λ s. sum double (chosen table s)) (λ k. figure (Before k)) [] 1 marks of-polygon
-        ∙ ap (λ m. map (λ k. figure (Before k)) (from 1 m)) (fit .0)
-      where
-        sets-made : ownerSets (length table) marks ≡ sets
-        sets-made = sets-are (length table) marks ∙ ap (map setOf) (made e .are) ∙ sym held
-
-        of-polygon : (k : ℕ) → k < length marks → sum double (chosen table (getD marks k [])) ≡ figure (Before (k + 1))
-        of-polygon k w =
-            let next : suc k ≡ k + 1 = omega arith in
-            let own = before-marks k (length table) marks (fit .1) (omega arith) owners each in
-            sym (total-area table areas are (getD marks k []))
-            ∙ ap (λ s. pos (total (chosen areas s))) (sym own ∙ ap₂ (λ i l. marksOf (Before i) l owners) next sets-made)
-
-    -- After repair: so is the double area of the triangles it owns.
+    -- After repair: the double area of the triangles that each polygon owns is the total of its figure.
     pub polygons-after : map (λ p. sum double (trianglesOwned (j .sheet .table) owners p)) (from 1 (length (j .sheet .polygons)))
-        ≡ map (λ k. pos (total (chosen areas (marksOf (After k) sets owners)))) (from 1 (length (j .sheet .polygons)))
-    polygons-after = map-same (λ p. sum double (trianglesOwned table owners p)) (λ k. figure (After k)) of-polygon (from 1 (length polygons))
+        ≡ map pos (map (λ k. total (chosen areas (marksOf (After k) sets owners))) (from 1 (length (j .sheet .polygons))))
+    polygons-after = map-through pos (λ k. total (chosen areas (marksOf (After k) sets owners))) _ of-polygon (from 1 (length polygons))
       where
         as-many : length sets ≡ length owners
         as-many = ap length held ∙ length-map (j .owners) setOf ∙ owners-many e ∙ sym each
 
-        of-polygon : (p : ℕ) → sum double (trianglesOwned table owners p) ≡ figure (After p)
+        of-polygon : (p : ℕ) → sum double (trianglesOwned table owners p) ≡ pos (total (chosen areas (marksOf (After p) sets owners)))
         of-polygon p = sym (ap (λ s. pos (total (chosen areas s))) (after-marks p sets owners as-many) ∙ total-area table areas are (map (λ owner. eqb owner p) owners))

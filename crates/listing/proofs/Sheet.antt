@@ -8,7 +8,10 @@ use native.Mathlib.Omega.{arith}
 use lib.Dec.{eqb}
 use lib.IntN.{pos}
 use lib.ListN.{length, length-map}
+use mir.Syntax.{w64}
+use mir.Val.{ofZ}
 use Rattle.plane.specs.Points.{double}
+use Rattle.plane.specs.Members.{Member, doubleArea}
 use Rattle.table.specs.Sets.{chosen}
 use Rattle.owners_marks.specs.Marks.{standingBy}
 use Rattle.owners_marks.specs.Sets.{ownersOf}
@@ -29,10 +32,11 @@ use Rattle.listing_lines.specs.Lines.{sheetWord, polygonWord, gapWord, overlapW
 use Rattle.listing_lines.specs.Printing.{Figures, lineBy, verdictBy, headBy, afterBy, linesBy}
 use Rattle.listing.specs.Listing.{figureLine, verdictLine, headOf, afterLines, listingOf}
 use Rattle.listing.specs.Held.{AreasOf}
-use Rattle.listing.proofs.Figures.{polygons-before, polygons-after, gaps-are, overlaps-are, figure-lines, verdict-is}
+use Rattle.listing.proofs.Figures.{polygons-told, polygons-after, gaps-are, overlaps-are, figure-lines, verdict-is}
 
 -- For owner numbers and double areas, one for each triangle.
-module _ {j : Judged} {numbers opposite sets : List ℕ} (w : JudgedHeld j numbers opposite sets) (owners : List ℕ) {areas : List ℕ} (a : AreasOf (j .sheet) areas) (each : length owners ≡ length sets) where
+module _ {j : Judged} {numbers opposite sets : List ℕ} (w : JudgedHeld j numbers opposite sets) (owners : List ℕ) {areas : List ℕ} (a : AreasOf (j .sheet) areas) (each : length owners ≡ length sets)
+    {doubles : List ℕ} (d : doubles ≡ map (λ (m : Member). ofZ w64 (doubleArea m)) (j .sheet .polygons)) where
   areas-many : length areas ≡ length sets
   areas-many = sym (length-map areas pos) ∙ ap length (a .are) ∙ length-map (j .sheet .table) double ∙ sym (sets-many w)
 
@@ -56,13 +60,16 @@ module _ {j : Judged} {numbers opposite sets : List ℕ} (w : JudgedHeld j numbe
       ap₂ (λ g o. cond (eqb (length (chosen areas g) + length (chosen areas o)) 0) cleanLine repairLine) gaps overlaps
       ∙ ap (λ b. cond b cleanLine repairLine) (verdict-is (j .owners) areas (areas-many ∙ sets-many w ∙ sym (owners-many (w .comes))))
 
-  head-is : headBy (length (j .sheet .polygons)) sets owners areas ≡ headOf (j .sheet) (j .owners)
+  many : length doubles ≡ length (j .sheet .polygons)
+  many = ap length d ∙ length-map (j .sheet .polygons) (λ (m : Member). ofZ w64 (doubleArea m))
+
+  head-is : headBy doubles sets owners areas ≡ headOf (j .sheet) (j .owners)
   head-is =
       ap₂ _++_
       (ap₂ _++_
       (ap₂ _++_
-      (ap₂ _++_ (ap (λ m. lineOf sheetWord (pos m) (pos (length (j .sheet .polygons)))) (areas-many ∙ sets-many w))
-      (ap (numbered polygonWord 1) (sym (polygons-before (w .comes) areas sets owners (a .are) (w .sets-are) (each ∙ sets-many w)))))
+      (ap₂ _++_ (ap₂ (λ m n. lineOf sheetWord (pos m) (pos n)) (areas-many ∙ sets-many w) many)
+      (ap (numbered polygonWord 1) (ap (map pos) d ∙ polygons-told (w .comes) areas (a .are))))
       (line-is gapWord Gaps _ gaps))
       (line-is overlapWord Overlaps _ overlaps))
       verdict-same
@@ -73,5 +80,5 @@ module _ {j : Judged} {numbers opposite sets : List ℕ} (w : JudgedHeld j numbe
 
   -- The lines by the figures, and by what repair came to, are the listing.
   pub listing-is : {lent : List ℕ} (way : ℕ) (done : Repaired) → RepairedBy way (lengthsHeld numbers (length opposite)) opposite (map ownersOf sets) lent done owners
-      → linesBy done (length (j .sheet .polygons)) sets owners areas ≡ listingOf way j
-  listing-is way done r = ap₂ _++_ head-is (after-is way done (r .answer ∙ repair-held w way))
+      → linesBy done doubles sets owners areas ≡ listingOf way j
+  listing-is way done r = ap₂ _++_ head-is (ap (λ n. afterBy done n sets owners areas) many ∙ after-is way done (r .answer ∙ repair-held w way))

@@ -28,12 +28,21 @@ fn put_judged(way: u32, numbers: &[u32], opposite: &[usize], sets: &[u64], text:
     ensures { λ r. ⌜ (r ≤ 6600) × ((j : Judged) → JudgedHeld j (now (numbers .entry)) (now (opposite .entry)) (now (sets .entry)) → Put 0 (listingOf way j) (now (text .entry)) r (now (text .exit))) ⌝ }
 {
     let n = sets.len();
-    let polygons = numbers[1 + 6 * n] - OFFSET;
+    let polygons = (numbers[1 + 6 * n] - OFFSET) as usize;
+    let mut doubles = [0u64; 64];
     let mut areas = [0u64; 1024];
     let mut owners = [0u8; 1024];
+    sheet_areas::areas(numbers, &mut doubles[..polygons]);
     lay_areas(numbers, &mut areas[..n]);
     let done = repair::repair(way, numbers, opposite, sets, &mut owners[..n]);
-    listing_lines::put_lines(text, done, polygons, sets, &owners[..n], &areas[..n])
+    listing_lines::put_lines(
+        text,
+        done,
+        &doubles[..polygons],
+        sets,
+        &owners[..n],
+        &areas[..n],
+    )
 }
 
 // The listing of a sheet that is read in a mode and repaired in a way, put at the front of the lent text; what stands behind it keeps its value.

@@ -4,7 +4,7 @@ ghost use Prim.Native.Nat.{_≤_, _*_};
 ghost use lib.ListN.{length};
 ghost use Rattle.whole.specs.Sums.{All};
 ghost use Rattle.table.specs.Sets.{chosen};
-ghost use Rattle.listing_figures.specs.Figures.{Asked, counts, marksOf, total};
+ghost use Rattle.listing_figures.specs.Figures.{counts, marksOf, total};
 use owners_marks::Standing;
 ghost use mathlib.Core.List.{map};
 ghost use lib.IntN.{pos};
@@ -25,11 +25,10 @@ pub fn areas(keys: &[u64], areas: &mut [u64])
     }
 }
 
-// Which triangles a figure is of: the gaps, the overlaps, those that a polygon owns before repair, or after.
+// Which triangles a figure is of: the gaps, the overlaps, or those that a polygon owns after repair.
 pub enum Figure {
     Gaps,
     Overlaps,
-    Before(u32),
     After(u32),
 }
 
@@ -41,7 +40,6 @@ pub struct Total {
 
 // The figure is of a triangle with this owner set before repair and this number after.
 fn is_counted(which: Figure, set: u64, owner: u8) -> bool
-    requires { ⌜ Asked which ⌝ }
     ensures { λ r. ⌜ r ≡ counts which set owner ⌝ }
 {
     match which {
@@ -55,14 +53,13 @@ fn is_counted(which: Figure, set: u64, owner: u8) -> bool
             Standing::Single(_) => false,
             Standing::Overlap(_) => true,
         },
-        Figure::Before(k) => (set >> (k - 1)) % 2 == 1,
         Figure::After(k) => owner as u32 == k,
     }
 }
 
 // The triangles that a figure is of.
 pub fn tally(which: Figure, sets: &[u64], owners: &[u8], areas: &[u64]) -> Total
-    requires { ⌜ Asked which × (length (now sets) ≡ length (now areas)) × (length (now owners) ≡ length (now areas)) × (length (now areas) ≤ 1024) × All (λ a. a ≤ 800_000_000_000_000) (now areas) ⌝ }
+    requires { ⌜ (length (now sets) ≡ length (now areas)) × (length (now owners) ≡ length (now areas)) × (length (now areas) ≤ 1024) × All (λ a. a ≤ 800_000_000_000_000) (now areas) ⌝ }
     ensures { λ r. ⌜ (r .triangles ≡ length (chosen (now (areas .entry)) (marksOf which (now (sets .entry)) (now (owners .entry)))))
         × (r .area ≡ total (chosen (now (areas .entry)) (marksOf which (now (sets .entry)) (now (owners .entry))))) ⌝ }
 {

@@ -1,10 +1,10 @@
--- The lines of the listing by the figures of the sheet: an owner set, an owner number and a double area for each triangle.
+-- The lines of the listing by the figures of the sheet: a double area for each polygon; an owner set, an owner number and a double area for each triangle.
 use mathlib.Core.Path.{_≡_}
-use mathlib.Core.Bool.{Bool, true, false, cond}
+use mathlib.Core.Bool.{cond}
 use mathlib.Core.List.{List, map, _++_}
 use Prim.Native.Nat.{ℕ, _+_, _≤_}
 use lib.Dec.{eqb}
-use lib.IntN.{ℤ, pos}
+use lib.IntN.{pos}
 use lib.ListN.{length}
 use Rattle.whole.specs.Sums.{All}
 use Rattle.table.specs.Sets.{chosen}
@@ -13,18 +13,13 @@ use Rattle.repair.specs.declared.Repaired.{Repaired}
 use Rattle.repair.specs.declared.Repaired.the-variants.{Done, Refused}
 use Rattle.lent_text.specs.Text.{lineOf}
 use Rattle.listing_figures.specs.declared.Figure.{Figure}
-use Rattle.listing_figures.specs.declared.Figure.the-variants.{Gaps, Overlaps, Before, After}
+use Rattle.listing_figures.specs.declared.Figure.the-variants.{Gaps, Overlaps, After}
 use Rattle.listing_figures.specs.Figures.{marksOf, total}
 use Rattle.listing_lines.specs.Lines.{sheetWord, polygonWord, gapWord, overlapWord, afterWord, refusedLine, cleanLine, repairLine, numbered}
 
--- The figure of polygon k, after repair or before.
-abbrev pub figureOf : Bool → ℕ → Figure
-figureOf true k = After k
-figureOf false k = Before k
-
--- The double area of polygon k, by the figure.
-abbrev pub areaBy : Bool → List ℕ → List ℕ → List ℕ → ℕ → ℤ
-areaBy after l owners areas k = pos (total (chosen areas (marksOf (figureOf after k) l owners)))
+-- The double area of what polygon k owns after repair.
+abbrev pub ownedBy : List ℕ → List ℕ → List ℕ → ℕ → ℕ
+ownedBy l owners areas k = total (chosen areas (marksOf (After k) l owners))
 
 -- A line for the triangles of a figure.
 abbrev pub lineBy : List ℕ → Figure → List ℕ → List ℕ → List ℕ → List ℕ
@@ -34,23 +29,23 @@ lineBy word figure l owners areas = lineOf word (pos (length (chosen areas (mark
 abbrev pub verdictBy : List ℕ → List ℕ → List ℕ → List ℕ
 verdictBy l owners areas = cond (eqb (length (chosen areas (marksOf Gaps l owners)) + length (chosen areas (marksOf Overlaps l owners))) 0) cleanLine repairLine
 
--- The lines of a sheet with so many polygons up to the verdict, by its figures.
-abbrev pub headBy : ℕ → List ℕ → List ℕ → List ℕ → List ℕ
-headBy polygons l owners areas =
-    lineOf sheetWord (pos (length areas)) (pos polygons)
-    ++ numbered polygonWord 1 (map (areaBy false l owners areas) (from 1 polygons))
+-- The lines of a sheet up to the verdict, by the double areas of its polygons and by its figures.
+abbrev pub headBy : List ℕ → List ℕ → List ℕ → List ℕ → List ℕ
+headBy doubles l owners areas =
+    lineOf sheetWord (pos (length areas)) (pos (length doubles))
+    ++ numbered polygonWord 1 (map pos doubles)
     ++ lineBy gapWord Gaps l owners areas
     ++ lineBy overlapWord Overlaps l owners areas
     ++ verdictBy l owners areas
 
 -- The lines behind the verdict: what each polygon owns after repair, or the refusal of repair.
 abbrev pub afterBy : Repaired → ℕ → List ℕ → List ℕ → List ℕ → List ℕ
-afterBy Done polygons l owners areas = numbered afterWord 1 (map (areaBy true l owners areas) (from 1 polygons))
+afterBy Done polygons l owners areas = numbered afterWord 1 (map pos (map (ownedBy l owners areas) (from 1 polygons)))
 afterBy (Refused code item) polygons l owners areas = refusedLine code item
 
 -- All of its lines.
-abbrev pub linesBy : Repaired → ℕ → List ℕ → List ℕ → List ℕ → List ℕ
-linesBy done polygons l owners areas = headBy polygons l owners areas ++ afterBy done polygons l owners areas
+abbrev pub linesBy : Repaired → List ℕ → List ℕ → List ℕ → List ℕ → List ℕ
+linesBy done doubles l owners areas = headBy doubles l owners areas ++ afterBy done (length doubles) l owners areas
 
 -- The lists of a sheet's figures: an owner set, an owner number and a double area for each triangle.
 pub record Figures (l owners areas : List ℕ) : Type 0 where

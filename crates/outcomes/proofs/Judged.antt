@@ -12,7 +12,7 @@ use lib.ListN.{length}
 use Rattle.plane.specs.Boundaries.{sidesOf}
 use Rattle.lent.specs.Stages.{Answer, value, refused, andThen, needing}
 use Rattle.lent.specs.Answered.{Outcome, bytes}
-use Rattle.lent_sets.specs.Sets.{setsOutcome}
+use Rattle.lent_sets.specs.Sets.{eachOutcome}
 use Rattle.table.specs.Opposites.{opposites}
 use Rattle.owners_marks.specs.Sets.{ownersOf}
 use Rattle.repair_longest.specs.Held.{lengthsHeld}
@@ -34,8 +34,8 @@ on-same f g (value a) e = e a refl
 on-same f g (refused code item) e = refl
 
 module _ {j : Judged} {numbers opposite sets : List ℕ} (w : JudgedHeld j numbers opposite sets) (way : ℕ) where
-  pub owner-sets-on : setsOutcome sets ≡ goesOn way OwnerSets j
-  owner-sets-on = ap setsOutcome (w .sets-are)
+  pub owner-sets-on : eachOutcome sets ≡ goesOn way OwnerSets j
+  owner-sets-on = ap eachOutcome (w .sets-are)
 
   pub owners-on : ownersOutcome way (lengthsHeld numbers (length opposite)) opposite (map ownersOf sets) ≡ goesOn way Owners j
   owners-on = ap (λ a. andThen a numbersAfter) (repair-held w way)

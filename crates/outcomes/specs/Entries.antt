@@ -4,13 +4,17 @@ use mathlib.Core.List.{List, [], _++_, map, flatMap}
 use mathlib.Core.Option.{Option, none, some}
 use Prim.Native.Nat.{ℕ, _+_, _*_}
 use lib.Dec.{leb}
+use lib.IntN.{ℤ}
 use lib.ListN.{length}
+use mir.Syntax.{w64}
+use mir.Val.{ofZ}
 use Rattle.plane.specs.Points.{Edge}
+use Rattle.plane.specs.Members.{doubleArea}
 use Rattle.lent.specs.Stages.{value, refused, andThen, needing}
 use Rattle.lent.specs.Answered.{Outcome, bytes}
 use Rattle.lent_little.specs.Ordered
 use Rattle.lent_little.specs.Bytes.{i32, sideBytes}
-use Rattle.lent_sets.specs.Sets.{setsOutcome}
+use Rattle.lent_sets.specs.Sets.{eachOutcome}
 use Rattle.owners_marks.specs.Marks.{setOf}
 use Rattle.repair_sides.specs.Sides.{boundarySides, trianglesOwned}
 use Rattle.repair_answers.specs.Answers.{numbersAfter}
@@ -37,15 +41,29 @@ firstOf (some r) = Ordered.bytes 4 (r .number)
 abbrev pub formOutcome : Option Opened → Sheet → Outcome
 formOutcome o n = bytes (length (firstOf o) + length (formOf n)) (firstOf o ++ formOf n)
 
--- sheet_numbers_by: the sheet is read, and an envelope that isn't the frame of its table is refused 52. sheet_numbers is the same in mode 0.
-abbrev pub sheetNumbersBy : ℕ → List ℕ → Outcome
-sheetNumbersBy mode s =
+-- The road of the entries that judge nothing: the sheet is read, and an envelope that isn't the frame of its table is refused 52.
+abbrev pub readTo : (Sheet → Outcome) → ℕ → List ℕ → Outcome
+readTo next mode s =
     andThen (readBy members mode s) (λ n.
     andThen (matched (framed (headerBy mode s) n)) (λ _.
-    formOutcome (headerBy mode s) n))
+    next n))
+
+-- sheet_numbers_by, and sheet_numbers, the same in mode 0.
+abbrev pub sheetNumbersBy : ℕ → List ℕ → Outcome
+sheetNumbersBy mode s = readTo (formOutcome (headerBy mode s)) mode s
 
 abbrev pub sheetNumbers : List ℕ → Outcome
 sheetNumbers = sheetNumbersBy 0
+
+-- sheet_areas: the double area of each polygon, in number order, as a little-endian i64; the item is the number of polygons.
+abbrev pub i64 : ℤ → List ℕ
+i64 z = Ordered.bytes 8 (ofZ w64 z)
+
+abbrev pub areasOutcome : Sheet → Outcome
+areasOutcome n = bytes (length (n .polygons)) (flatMap i64 (map doubleArea (n .polygons)))
+
+abbrev pub sheetAreas : ℕ → List ℕ → Outcome
+sheetAreas = readTo areasOutcome
 
 -- ---- where in the file
 -- The number that an entry answers where enough bytes are lent.
@@ -89,7 +107,7 @@ onSheet polygon n = leb 1 polygon && leb polygon (length (n .polygons))
 -- What a judged sheet goes on to, repaired in a way. The owner sets before repair; a refusal of repair, or the number of each triangle after it; 41 where the
 -- asked polygon isn't on the sheet, then a refusal of repair, or the boundary sides.
 abbrev pub goesOn : ℕ → Wanted → Judged → Outcome
-goesOn way OwnerSets j = setsOutcome (map setOf (j .owners))
+goesOn way OwnerSets j = eachOutcome (map setOf (j .owners))
 goesOn way Owners j = andThen (repairOf way j) numbersAfter
 goesOn way (Boundary polygon) j = andThen (needing (onSheet polygon (j .sheet)) 41 0) (λ _. andThen (repairOf way j) (λ owners. sidesAfter (ownedSides (j .sheet) polygon owners)))
 

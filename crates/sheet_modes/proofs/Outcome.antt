@@ -47,12 +47,13 @@ module _ (mode : ℕ) (s numbers : List ℕ) (m : Mode) (known : modeOf mode ≡
   module _ (o : Option Opened) (is : around (m .form) s ≡ value o) where
     -- A sheet.
     pub got-sheet : (k : ℕ) (a : Around) → aroundOf a ≡ o → (ending : Ending) → ending ≡ Read k → EndsAs (m .edition) (behind o s) ending numbers → GotAs mode s (GotSheet k a) numbers
-    got-sheet k a e ending q f = let (n, r, h, l) = subst (λ r. EndsAs (m .edition) (behind o s) r numbers) q f in (
+    got-sheet k a e ending q f = let (n, r, h, l, w) = subst (λ r. EndsAs (m .edition) (behind o s) r numbers) q f in (
       edited (m .edition) n,
       by-value members s mode (edited (m .edition) n) .1 (record { known = m; is-mode = known; header = o; is-around = is; sheet = n; read = r; is = refl }),
       header-is members s mode m o known is ∙ sym e,
       h,
       l,
+      w,
     )
 
     -- A refusal of reading, its position counted from the first byte.
@@ -83,7 +84,7 @@ module _ (mode : ℕ) (s l l′ : List ℕ) where
   as-many k l h m = ap length (sym (h .is)) ∙ length-map (take k l) millimetres ∙ length-take-le k l m
 
   pub one-outcome : (r r′ : Got) → GotAs mode s r l → GotAs mode s r′ l′ → (r ≡ r′) × ((k : ℕ) (a : Around) → r ≡ GotSheet k a → take k l ≡ take k l′)
-  one-outcome (GotSheet k a) (GotSheet k′ a′) (n, p, o, h, m) (n′, p′, o′, h′, m′) =
+  one-outcome (GotSheet k a) (GotSheet k′ a′) (n, p, o, h, m, w₁) (n′, p′, o′, h′, m′, w₂) =
       let same : n ≡ n′ = cc (sym p ∙ p′) in
       let e : k ≡ k′ = sym (as-many k l h m) ∙ ap (λ n. length (numbersOf n)) same ∙ as-many k′ l′ h′ m′ in
       let w = around-told a a′ (sym o ∙ o′) in (
@@ -91,8 +92,8 @@ module _ (mode : ℕ) (s l l′ : List ℕ) where
         λ i b q. let z : k ≡ i = cc q in
             rw (← z) (same-held (take k l) (take k l′) (h .is ∙ ap numbersOf same ∙ sym (h′ .is) ∙ ap (λ j. map millimetres (take j l′)) (sym e))),
       )
-  one-outcome (GotSheet k a) (GotRefused code item field) (n, p, o, h, m) (p′, f) = absurd (value-refused n code item (sym p ∙ p′))
-  one-outcome (GotRefused code item field) (GotSheet k a) (p′, f) (n, p, o, h, m) = absurd (value-refused n code item (sym p ∙ p′))
+  one-outcome (GotSheet k a) (GotRefused code item field) (n, p, o, h, m, w) (p′, f) = absurd (value-refused n code item (sym p ∙ p′))
+  one-outcome (GotRefused code item field) (GotSheet k a) (p′, f) (n, p, o, h, m, w) = absurd (value-refused n code item (sym p ∙ p′))
   one-outcome (GotRefused code item field) (GotRefused code′ item′ field′) (p, f) (p′, f′) =
       let (c, i) = same-refusal {A = Sheet} code item code′ item′ .0 (sym p ∙ p′) in
       (λ j. GotRefused (sym c j) (sym i j) ((f ∙ sym f′) j), λ k a q. absurd (let z : _≡_ {A = ℕ} 0 1 = cc q in omega arith))

@@ -13,6 +13,7 @@ use Rattle.sheet.specs.declared.Ending.the-variants.{Sheet as Read, Refused}
 use Rattle.sheet.specs.Held.{SheetHeld}
 use Rattle.sheet.specs.Reading.{readingOf}
 use Rattle.sheet.specs.Read.{readSheet}
+use Rattle.sheet_turned.specs.Rings.{RingsFit}
 use Rattle.sheet_envelope.specs.declared.Optional.{Optional}
 use Rattle.sheet_envelope.specs.declared.Optional.the-variants.{Absent}
 use Rattle.sheet_blob.specs.declared.Opened.{Opened}
@@ -31,14 +32,14 @@ abbrev pub envelopeOf : Around → Optional
 envelopeOf Nothing = Absent
 envelopeOf (Header h) = h .envelope
 
--- A sheet by itself, in an edition: it stands at the front of the numbers; or the refusal, with a position within the bytes.
+-- A sheet by itself, in an edition: it stands at the front of the numbers, its rings closed and within the limits; or the refusal, with a position within the bytes.
 abbrev pub EndsAs : Edition → List ℕ → Ending → List ℕ → Type 0
-EndsAs edition s (Read k) numbers = (m : Sheet) × (readSheet members s ≡ value m) × SheetHeld members (edited edition m) (take k numbers) × (k ≤ length numbers)
+EndsAs edition s (Read k) numbers = (m : Sheet) × (readSheet members s ≡ value m) × SheetHeld members (edited edition m) (take k numbers) × (k ≤ length numbers) × RingsFit (edited edition m)
 EndsAs edition s (Refused code item field) numbers =
     (readSheet members s ≡ refused code item) × (field ≡ readingOf members s .position) × (eqb (readingOf members s .code) 0 ≡ false) × (field ≤ length s)
 
 -- In a mode.
 abbrev pub GotAs : ℕ → List ℕ → Got → List ℕ → Type 0
 GotAs mode s (GotSheet k around) numbers =
-    (n : Sheet) × (readBy members mode s ≡ value n) × (headerBy mode s ≡ aroundOf around) × SheetHeld members n (take k numbers) × (k ≤ length numbers)
+    (n : Sheet) × (readBy members mode s ≡ value n) × (headerBy mode s ≡ aroundOf around) × SheetHeld members n (take k numbers) × (k ≤ length numbers) × RingsFit n
 GotAs mode s (GotRefused code item field) numbers = (readBy members mode s ≡ refused code item) × (field ≡ positionIn (modeOf mode) s)

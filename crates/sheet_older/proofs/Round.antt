@@ -14,14 +14,9 @@ use Rattle.plane.specs.Corners.{millimetres}
 use Rattle.plane.specs.Keys.{Held}
 use Rattle.plane_rings.specs.Closed.{RingLimits}
 use Rattle.sheet_form.specs.Numbers.{pointNumbers, ringNumbers}
+use Rattle.sheet_sums.proofs.Summing.{points-length}
 use Rattle.sheet_older.specs.Standing.{Stands, Turns, swapped}
 use Rattle.sheet_older.proofs.Places.{stands-length, stands-as, stands-past, stands-count, swapped-length, swapped-held, swapped-is}
-
--- ---- points as numbers
-pub points-length : (l : Ring) → length (flatMap pointNumbers l) ≡ 2 * length l
-unfolding flatMap
-points-length [] = refl
-points-length (p ∷ l) = omega (arith, points-length l)
 
 -- The points left from place i to place j: those at either end are in place, and those between them in reverse order make up the ring in reverse order.
 pub record Left (front : List ℤ) (r : Ring) (rest : List ℤ) (numbers : List ℕ) (i j : ℕ) : Type 0 where

@@ -21,7 +21,7 @@ use Rattle.sheet_turned.specs.Turned.{turned}
 use Rattle.sheet_older.specs.Standing.{Stands, Place, Turns}
 use Rattle.sheet_older.proofs.Places.{stands-count}
 
-triangles-length : (l : List Triangle) → length (flatMap triangleNumbers l) ≡ 6 * length l
+pub triangles-length : (l : List Triangle) → length (flatMap triangleNumbers l) ≡ 6 * length l
 unfolding flatMap
 triangles-length [] = refl
 triangles-length (t ∷ l) = omega (arith, triangles-length l)

@@ -5,9 +5,10 @@ use mathlib.Core.List.{List, _++_, reverse}
 use Prim.Native.Nat.{ℕ, _+_, _-_, _*_}
 use native.Mathlib.Omega.{arith}
 use lib.IntN.{ℤ, pos}
-use lib.ListN.{getD}
+use lib.ListN.{length, getD}
 use lib.Signed.{ltZ}
 use Rattle.whole.specs.Sums.{All}
+use Rattle.whole.proofs.Sums.{all-take}
 use Rattle.plane.specs.Members.{Ring}
 use Rattle.plane.specs.Keys.{Held}
 use Rattle.plane_rings.specs.Rings.{ringArea}
@@ -15,9 +16,9 @@ use Rattle.plane_rings.specs.Closed.{RingLimits}
 use Rattle.plane_rings.specs.Turning.{negative, positive, outward, inward}
 use Rattle.sheet_form.specs.Numbers.{pointNumbers, ringNumbers}
 use Rattle.sheet_sums.specs.Standing.{RingAt}
+use Rattle.sheet_sums.proofs.Summing.{points-length}
 use Rattle.sheet_older.specs.Standing.{Stands, Turns, turnRing}
 use Rattle.sheet_older.proofs.Places.{stands-behind, stands-count, stands-past}
-use Rattle.sheet_older.proofs.Round.{points-length}
 
 -- What the test says of the ring.
 pub turned-yes : (first : Bool) (r : Ring) → cond first (negative r) (positive r) ≡ true → turnRing first r ≡ reverse r
@@ -33,7 +34,7 @@ turned-no false r e = ap (λ b. cond b (reverse r) r) e
 -- The ring stands at the place for the sum of its double area.
 pub ring-at : {numbers : List ℕ} {at : ℕ} {front : List ℤ} (r : Ring) (rest : List ℤ)
     → All Held numbers → RingLimits r → Stands numbers at front (ringNumbers r ++ rest) → RingAt numbers at r rest
-ring-at r rest held fits s = record { held = held; numbers-at = stands-behind s; limits = fits }
+ring-at {numbers} {at} r rest held fits s = record { held = all-take Held (at + 1 + 2 * length r) numbers held; numbers-at = stands-behind s; limits = fits }
 
 module _ (first : Bool) {numbers : List ℕ} {at : ℕ} {area : ℤ} (held : All Held numbers)
     (sum : (r : Ring) (rest : List ℤ) → RingAt numbers at r rest → area ≡ ringArea r) where

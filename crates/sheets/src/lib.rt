@@ -1,7 +1,7 @@
 // The entries that both products call, on numbers and byte slices only. Each answers item × 256 + code, and only fills in what is asked. Those that
 // take no mode and no way are the others in mode 0 and way 0.
 ghost use Rattle.lent.specs.Answered.{Answered};
-ghost use Rattle.outcomes.specs.Entries.{sheetNumbers, sheetNumbersBy, sheetPosition, sheetWrite, sheetWriteBlob, sheetOwnerSets, sheetOwnerSetsBy, sheetOwners, sheetOwnersBy, sheetBoundary, sheetBoundaryBy, sheetListing, sheetListingBy};
+ghost use Rattle.outcomes.specs.Entries.{sheetNumbers, sheetNumbersBy, sheetAreas, sheetPosition, sheetWrite, sheetWriteBlob, sheetOwnerSets, sheetOwnerSetsBy, sheetOwners, sheetOwnersBy, sheetBoundary, sheetBoundaryBy, sheetListing, sheetListingBy};
 use outcomes::Asked;
 use outcomes::Wanted;
 
@@ -78,6 +78,15 @@ pub extern "C" fn sheet_numbers_by(sheet: &[u8], mode: u32, out: &mut [u8]) -> u
     ensures { λ r. ⌜ Answered (sheetNumbersBy mode (now (sheet .entry))) (now (out .entry)) r (now (out .exit)) ⌝ }
 {
     sheets_answers::numbers(sheet, mode, out)
+}
+
+// The double area of each polygon, from its corners alone, of a sheet that is read in a mode: a little-endian i64 for each, in number order; the item is the number
+// of polygons. Nothing is judged.
+#[no_mangle]
+pub extern "C" fn sheet_areas(sheet: &[u8], mode: u32, out: &mut [u8]) -> u64
+    ensures { λ r. ⌜ Answered (sheetAreas mode (now (sheet .entry))) (now (out .entry)) r (now (out .exit)) ⌝ }
+{
+    sheets_answers::areas(sheet, mode, out)
 }
 
 // The owners of each triangle before repair, of a sheet that is read in a mode.

@@ -8,7 +8,7 @@ ghost use Rattle.sheet_modes.specs.Held.{aroundOf};
 ghost use Rattle.judged.specs.Judged.{Judged};
 ghost use Rattle.judged.specs.Held.{JudgedHeld};
 ghost use Rattle.outcomes.specs.declared.Wanted.the-variants.{Boundary};
-ghost use Rattle.outcomes.specs.Entries.{firstOf, sheetNumbersBy, goesOn, answerTo, sheetListingBy};
+ghost use Rattle.outcomes.specs.Entries.{firstOf, sheetNumbersBy, sheetAreas, goesOn, answerTo, sheetListingBy};
 use judged_sets::Owning;
 use outcomes::Asked;
 use outcomes::Wanted;
@@ -57,6 +57,26 @@ fn form(numbers: &[u32], n: usize, around: Around, out: &mut [u8]) -> u64
     }
 }
 
+// The double area of each polygon of a sheet that is read in a mode, as a little-endian i64, in number order; the item is the number of polygons. 52 as for the
+// numbers. Nothing is judged.
+pub fn areas(sheet: &[u8], mode: u32, out: &mut [u8]) -> u64
+    ensures { λ r. ⌜ Answered (sheetAreas mode (now (sheet .entry))) (now (out .entry)) r (now (out .exit)) ⌝ }
+{
+    let mut numbers = [0u32; 16450];
+    match sheet_modes::read(sheet, mode, &mut numbers) {
+        Got::Refused(code, item, _) => item as u64 * 256 + code as u64,
+        Got::Sheet(n, around) => {
+            if !sheet_modes::framed(&numbers[..n], around) {
+                return 52;
+            }
+            let polygons = (numbers[1 + 6 * (numbers[0] - OFFSET) as usize] - OFFSET) as usize;
+            let mut areas = [0u64; 64];
+            sheet_areas::areas(&numbers, &mut areas[..polygons]);
+            lent_sets::each(&areas[..polygons], out)
+        }
+    }
+}
+
 // The boundary sides of a polygon of a judged sheet after repair in a way; 41 where it isn't on the sheet.
 fn boundary(
     way: u32,
@@ -91,7 +111,7 @@ fn go_on(
     ensures { λ r. ⌜ ((j : Judged) → JudgedHeld j (now (numbers .entry)) (now (opposite .entry)) (now (sets .entry)) → Answered (goesOn way wanted j) (now (out .entry)) r (now (out .exit))) ⌝ }
 {
     match wanted {
-        Wanted::OwnerSets => lent_sets::owner_sets(sets, out),
+        Wanted::OwnerSets => lent_sets::each(sets, out),
         Wanted::Owners => repair_owner_bytes::owners(way, numbers, opposite, sets, out),
         Wanted::Boundary(polygon) => boundary(way, polygon, numbers, opposite, sets, out),
     }

@@ -16,8 +16,17 @@ pub const ALL: [(&str, fn()); 4] = [("entries", entries), ("native", beside_nati
 const ROOM: usize = sheets::WRITE_BLOB_ROOM;
 
 /// The entries on hostile sheets, those first that have a column.
-const ENTRIES: [Entry; 8] =
-    [Entry::OwnerSets, Entry::Owners, Entry::Listing, Entry::Boundary(1), Entry::OwnerSetsBy(1), Entry::Numbers, Entry::Position(0), Entry::Write];
+const ENTRIES: [Entry; 9] = [
+    Entry::OwnerSets,
+    Entry::Owners,
+    Entry::Listing,
+    Entry::Boundary(1),
+    Entry::OwnerSetsBy(1),
+    Entry::Numbers,
+    Entry::Position(0),
+    Entry::Areas(0),
+    Entry::Write,
+];
 
 /// The kinds of sheets, by name.
 pub fn kinds() -> [(&'static str, Vec<Vec<u8>>); 6] {
@@ -36,7 +45,7 @@ fn entries() {
     println!("| Sheets | Entry | Bytes in | Library, µs | Independent, µs | Library / independent | Library, MB/s | Independent, MB/s |");
     println!("|---|---|---|---|---|---|---|---|");
     let judging = [Entry::OwnerSets, Entry::Owners, Entry::Boundary(1), Entry::Listing];
-    let reading = [Entry::Numbers, Entry::NumbersBy(0), Entry::NumbersBy(1), Entry::Position(0), Entry::Write];
+    let reading = [Entry::Numbers, Entry::NumbersBy(0), Entry::NumbersBy(1), Entry::Position(0), Entry::Areas(0), Entry::Write];
     let of_blobs = [Entry::NumbersBy(2), Entry::WriteBlob, Entry::OwnerSetsBy(0), Entry::OwnerSetsBy(2)];
     let entries = [&reading[..], &judging, &of_blobs].concat();
     for (name, sheets) in &kinds() {
@@ -137,6 +146,7 @@ fn word(entry: Entry) -> String {
         Entry::Listing => "sheet_listing".into(),
         Entry::Position(mode) => by("sheet_position", mode),
         Entry::NumbersBy(mode) => by("sheet_numbers_by", mode),
+        Entry::Areas(mode) => by("sheet_areas", mode),
         Entry::OwnerSetsBy(mode) => by("sheet_owner_sets_by", mode),
         Entry::OwnersBy(mode, _) => by("sheet_owners_by", mode),
         Entry::BoundaryBy(mode, ..) => by("sheet_boundary_by", mode),

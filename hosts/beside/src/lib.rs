@@ -14,6 +14,7 @@ pub fn call(entry: Entry, input: &[u8], out: &mut [u8]) -> Result<u64, Refusal> 
         Entry::Listing => lent::listing(input, out),
         Entry::Position(mode) => lent::position(input, mode, out),
         Entry::NumbersBy(mode) => lent::numbers_by(input, mode, out),
+        Entry::Areas(mode) => lent::areas(input, mode, out),
         Entry::OwnerSetsBy(mode) => lent::owner_sets_by(input, mode, out),
         Entry::OwnersBy(mode, way) => lent::owners_by(input, mode, way, out),
         Entry::BoundaryBy(mode, way, polygon) => lent::boundary_by(input, mode, way, polygon, out),

@@ -16,13 +16,14 @@ pub unsafe extern "C" fn LLVMFuzzerTestOneInput(data: *const u8, size: usize) ->
     let input = if size == 0 { &[] } else { std::slice::from_raw_parts(data, size) };
     let asked = u32::from(input.last().copied().unwrap_or(0) % 5);
     let reading = [Entry::Numbers, Entry::NumbersBy(1), Entry::NumbersBy(asked), Entry::Position(0), Entry::Position(asked)];
+    let areas = [Entry::Areas(asked), Entry::Areas(1)];
     let entries = [Entry::OwnerSets, Entry::Owners, Entry::Boundary(asked), Entry::Listing, Entry::Write];
     let way = asked / 2;
     let older = [Entry::OwnerSetsBy(1), Entry::OwnersBy(1, way), Entry::BoundaryBy(1, way, asked), Entry::ListingBy(1, way)];
     let mode = 2 + asked % 2;
     let of_blobs = [Entry::NumbersBy(mode), Entry::Position(mode), Entry::OwnerSetsBy(mode), Entry::OwnersBy(mode, way)];
-    let more = [Entry::BoundaryBy(mode, way, asked), Entry::ListingBy(mode, way), Entry::WriteBlob];
-    let entries = reading.into_iter().chain(entries).chain(older).chain(of_blobs).chain(more);
+    let more = [Entry::Areas(mode), Entry::BoundaryBy(mode, way, asked), Entry::ListingBy(mode, way), Entry::WriteBlob];
+    let entries = reading.into_iter().chain(areas).chain(entries).chain(older).chain(of_blobs).chain(more);
     let mut difference = entries.into_iter().find_map(|entry| compare(entry, input));
     for (mode, write) in [(0, Entry::Write), (1, Entry::Write), (2, Entry::WriteBlob), (3, Entry::WriteBlob)] {
         if let Ok(numbers) = whole(Entry::NumbersBy(mode), input) {

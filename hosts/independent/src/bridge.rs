@@ -8,7 +8,8 @@
 //! A room of 2^32 - 1 asks for the bridge's wrapper, whose room is its own. The bridge answers u64 packed answer, put
 //! together from what the wrapper says; u32 length; and so many bytes, the wrapper's value turned back to bytes, none for a
 //! refusal. The wrapper alone has a verdict: its item is 0 and its value one byte, 0 for clean and 1 for repair. A wrapper is
-//! asked in known modes and ways only; its functions without a mode are called where a verdict or a position has mode 0.
+//! asked in known modes and ways only; its functions without a mode are called where a verdict, a position
+//! or areas have mode 0.
 //!
 //! Frames may come without waiting for answers; a bridge that has no frame left to take must have flushed its answers.
 
@@ -18,7 +19,7 @@ use std::io::Read;
 use std::process::{Child, Command, Stdio};
 
 /// The functions' names, by the numbers that they have in a frame.
-pub const NAMES: [&str; 14] = [
+pub const NAMES: [&str; 15] = [
     "numbers",
     "write",
     "owner sets",
@@ -33,6 +34,7 @@ pub const NAMES: [&str; 14] = [
     "boundary in a mode",
     "listing in a mode",
     "write blob",
+    "areas",
 ];
 
 /// What is called.
@@ -80,6 +82,7 @@ impl Function {
             Function::Entry(Entry::BoundaryBy(mode, way, polygon)) => (11, [mode, way, polygon]),
             Function::Entry(Entry::ListingBy(mode, way)) => (12, [mode, way, 0]),
             Function::Entry(Entry::WriteBlob) => (13, [0; 3]),
+            Function::Entry(Entry::Areas(mode)) => (14, [mode, 0, 0]),
         }
     }
 
@@ -90,6 +93,7 @@ impl Function {
             Entry::Boundary(polygon),
             Entry::Position(mode),
             Entry::NumbersBy(mode),
+            Entry::Areas(mode),
             Entry::OwnerSetsBy(mode),
             Entry::OwnersBy(mode, way),
             Entry::BoundaryBy(mode, way, polygon),

@@ -4,6 +4,7 @@
 //! What is said of a case stands beside it as a number of document 01's, found by reading and not by this program, which is
 //! compared with it in the tests below; the library is compared with this program on every case (`differ`).
 
+mod areas;
 mod blobs;
 mod carried;
 mod case;
@@ -44,6 +45,7 @@ pub fn all() -> Vec<Case> {
         positions::cases,
         older::cases,
         blobs::cases,
+        areas::cases,
     ];
     groups.iter().for_each(|group| group(&mut cases));
     cases.0
@@ -74,10 +76,11 @@ mod tests {
     use std::collections::BTreeSet;
 
     /// The entries that take a sheet in a mode and refuse it, asked for polygon 1 and for one that isn't there.
-    fn by(mode: u32, way: u32) -> [Entry; 5] {
+    fn by(mode: u32, way: u32) -> [Entry; 6] {
         let boundary = |polygon| Entry::BoundaryBy(mode, way, polygon);
         let repaired = [Entry::OwnersBy(mode, way), boundary(1), boundary(u32::MAX)];
-        [[Entry::NumbersBy(mode), Entry::OwnerSetsBy(mode)].as_slice(), &repaired].concat().try_into().unwrap()
+        let read = [Entry::NumbersBy(mode), Entry::Areas(mode)];
+        [&read[..], &[Entry::OwnerSetsBy(mode)], &repaired].concat().try_into().unwrap()
     }
 
     /// What is printed in this mode and way.
@@ -101,15 +104,18 @@ mod tests {
     /// Every entry that judges refuses so, and the listing says it.
     fn is_judged_so(mode: u32, input: &[u8], refusal: Refusal) -> bool {
         let said = format!("refused {} {}\n", refusal.code, refusal.item);
-        let all = by(mode, 0)[1..].iter().all(|entry| answered(*entry, input) == (packed(refusal), None));
+        let all = by(mode, 0)[2..].iter().all(|entry| answered(*entry, input) == (packed(refusal), None));
         all && listed(mode, 0, input) == said
     }
 
-    /// So does the one that only reads, where reading or the envelope is at fault, and else it answers.
+    /// So do those that only read, where reading or the envelope is at fault, and else they answer.
     fn is_refused(mode: u32, input: &[u8], refusal: Refusal) -> bool {
         let read = if (10..50).contains(&refusal.code) { 0 } else { packed(refusal) };
-        let (numbers, _) = answered(Entry::NumbersBy(mode), input);
-        is_judged_so(mode, input, refusal) && (numbers == read || read == 0 && numbers % 256 == 0)
+        let reads = by(mode, 0)[..2].iter().all(|entry| {
+            let (answer, _) = answered(*entry, input);
+            answer == read || read == 0 && answer % 256 == 0
+        });
+        is_judged_so(mode, input, refusal) && reads
     }
 
     /// What is read is written by the numbers, and read as the same again, in the mode that it was read in and in the present
@@ -151,6 +157,10 @@ mod tests {
             Outcome::Written => is_written(input),
             Outcome::NotWritten => answered(Entry::Write, input) == (42, None),
             Outcome::AsBlob(outcome) => is_so(2, input, outcome),
+            Outcome::Areas(areas) => {
+                let bytes = areas.iter().flat_map(|area| area.to_le_bytes()).collect();
+                answered(Entry::Areas(mode), input) == (256 * areas.len() as u64, Some(bytes))
+            }
             Outcome::Holds(number, sheet) => {
                 let numbers = whole(Entry::Numbers, sheet).unwrap().bytes;
                 let held = [&number.to_le_bytes()[..], &numbers].concat();
@@ -158,7 +168,9 @@ mod tests {
             }
             Outcome::Unframed(code, item) => {
                 let numbers = answered(Entry::NumbersBy(mode), input);
-                numbers == (52, None) && is_judged_so(mode, input, Refusal::new(*code, *item))
+                numbers == (52, None)
+                    && answered(Entry::Areas(mode), input) == numbers
+                    && is_judged_so(mode, input, Refusal::new(*code, *item))
             }
             Outcome::BlobWritten(blob) => {
                 let read = answered(Entry::NumbersBy(2), blob).1;
@@ -184,7 +196,8 @@ mod tests {
     fn mode_0_and_way_0_are_those_of_the_entries_without_them() {
         for (name, input) in sheets() {
             let boundaries = [1, u32::MAX].map(Entry::Boundary);
-            let without = [&[Entry::Numbers, Entry::OwnerSets, Entry::Owners][..], &boundaries].concat();
+            let without =
+                [&[Entry::Numbers, Entry::Areas(0), Entry::OwnerSets, Entry::Owners][..], &boundaries].concat();
             for (entry, without) in by(0, 0).into_iter().zip(without) {
                 assert_eq!(whole(entry, &input), whole(without, &input), "{name}");
             }
@@ -195,8 +208,9 @@ mod tests {
     #[test]
     fn reading_and_the_table_are_refused_alike_in_both_modes() {
         for (name, input) in sheets() {
-            let refused =
-                |mode: u32| [Entry::NumbersBy(mode), Entry::OwnerSetsBy(mode)].map(|entry| whole(entry, &input));
+            let refused = |mode: u32| {
+                [Entry::NumbersBy(mode), Entry::Areas(mode), Entry::OwnerSetsBy(mode)].map(|entry| whole(entry, &input))
+            };
             let before_polygons = refused(0).map(|answer| answer.err().filter(|refusal| refusal.code < 20));
             assert_eq!(
                 before_polygons,

@@ -3,6 +3,7 @@
 
 use crate::blob::{Envelope, Header};
 use crate::cases::{self, Case};
+use crate::entries::{whole, Entry, Success};
 use crate::generate::{generate, in_blob};
 use crate::made::Head;
 use crate::ownership::{judge, judge_sheet, member_double_area, Judged, PointsInside};
@@ -262,6 +263,26 @@ fn repair_and_areas_agree_on_small_sheets() {
 /// A ring's double area: those of the triangles from its first point to each of its edges, added up.
 fn ring_area(ring: &Ring) -> i64 {
     ring.windows(2).map(|edge| double_area(&[ring[0], edge[0], edge[1]])).sum()
+}
+
+/// The double areas that the areas entry writes are those of the triangles from each ring's first point, in the present mode and
+/// in the older one, whether or not the sheet is refused later.
+#[test]
+fn areas_agree_on_sheets_that_are_read() {
+    let (mut negative, mut refused) = (0, 0);
+    for (name, input) in inputs() {
+        let Ok(present) = read(&input) else { continue };
+        for (mode, sheet) in [(0, present.clone()), (1, older(&present))] {
+            let areas: Vec<i64> =
+                sheet.polygons.iter().map(|member| member.iter().flatten().map(ring_area).sum()).collect();
+            let written = areas.iter().flat_map(|area| area.to_le_bytes()).collect();
+            let right = Success { item: areas.len() as u64, bytes: written };
+            assert_eq!(whole(Entry::Areas(mode), &input), Ok(right), "{name}");
+            negative += areas.iter().filter(|area| **area < 0).count();
+        }
+        refused += usize::from(judge_sheet(Mode::PRESENT, &input).is_err());
+    }
+    assert!(negative > 500 && refused > 500, "{negative} negative areas, {refused} sheets refused");
 }
 
 /// The sheet as the older mode reads it: in each polygon the first ring with its points in reverse order if its double area is

@@ -1,6 +1,6 @@
 //! The entries: what each answers, and what it writes at the front of the lent bytes.
 
-use crate::ownership::{judge_sheet, Judged};
+use crate::ownership::{judge_sheet, member_double_area, Judged};
 use crate::reading::{read_in, Mode};
 use crate::repair::{boundary_sides, repaired};
 use crate::{listing, writing, Refusal};
@@ -27,6 +27,8 @@ pub enum Entry {
     Position(u32),
     /// The numbers entry in the mode of this number.
     NumbersBy(u32),
+    /// The double areas of the polygons, read in the mode of this number.
+    Areas(u32),
     /// The set entry in the mode of this number.
     OwnerSetsBy(u32),
     /// The owner entry in the mode and the way of these numbers.
@@ -40,7 +42,7 @@ pub enum Entry {
 /// What an entry would write if enough bytes were lent, and the item of its success.
 #[derive(Clone, PartialEq, Eq, Debug)]
 pub struct Success {
-    /// The number of triangles, of sides, or of bytes.
+    /// The number of triangles, of polygons, of sides, or of bytes.
     pub item: u64,
     /// The bytes written at the front of the lent ones.
     pub bytes: Vec<u8>,
@@ -108,6 +110,7 @@ impl<'a> Input<'a> {
             Entry::Listing => Ok(counted(listing::of(self.judged(Mode::PRESENT), 0).into_bytes())),
             Entry::Position(mode) => Ok(self.position(mode)),
             Entry::NumbersBy(mode) => self.numbers(Mode::numbered(mode)?),
+            Entry::Areas(mode) => self.areas(Mode::numbered(mode)?),
             Entry::OwnerSetsBy(mode) => Ok(owner_sets(self.judged_by(mode)?)),
             Entry::OwnersBy(mode, way) => owners(self.judged_by(mode)?, way),
             Entry::BoundaryBy(mode, way, asked) => boundary(self.judged_by(mode)?, way, asked),
@@ -121,6 +124,14 @@ impl<'a> Input<'a> {
         read.check_envelope()?;
         let number = read.header.map_or(Vec::new(), |header| header.number.to_le_bytes().to_vec());
         Ok(counted([number, writing::numbers(&read.sheet)].concat()))
+    }
+
+    /// The double area of each polygon of a sheet, from its corners alone. After reading comes 52; nothing is judged.
+    fn areas(&self, mode: Mode) -> Result<Success, Refusal> {
+        let read = read_in(mode, self.bytes).map_err(|fault| fault.refusal)?;
+        read.check_envelope()?;
+        let areas = read.sheet.polygons.iter().map(member_double_area);
+        Ok(Success { item: read.sheet.polygons.len() as u64, bytes: areas.flat_map(i64::to_le_bytes).collect() })
     }
 
     /// The packed answer that the numbers entry gives in this mode with room enough, and the position of the field at fault

@@ -20,6 +20,7 @@ extern "C" {
     fn sheet_listing(sheet: *const u8, sheet_len: usize, out: *mut u8, out_len: usize) -> u64;
     fn sheet_position(sheet: *const u8, sheet_len: usize, mode: u32, out: *mut u8, out_len: usize) -> u64;
     fn sheet_numbers_by(sheet: *const u8, sheet_len: usize, mode: u32, out: *mut u8, out_len: usize) -> u64;
+    fn sheet_areas(sheet: *const u8, sheet_len: usize, mode: u32, out: *mut u8, out_len: usize) -> u64;
     fn sheet_owner_sets_by(sheet: *const u8, sheet_len: usize, mode: u32, out: *mut u8, out_len: usize) -> u64;
     fn sheet_owners_by(sheet: *const u8, sheet_len: usize, mode: u32, way: u32, out: *mut u8, out_len: usize) -> u64;
     fn sheet_boundary_by(sheet: *const u8, sheet_len: usize, mode: u32, way: u32, polygon: u32, out: *mut u8, out_len: usize) -> u64;
@@ -46,6 +47,8 @@ pub const POSITION_ROOM: usize = 16;
 pub const BLOB_NUMBERS_ROOM: usize = 65_804;
 /// Room that is always enough for a written blob.
 pub const WRITE_BLOB_ROOM: usize = 158_330;
+/// Room that is always enough for the double areas of a sheet's polygons.
+pub const AREAS_ROOM: usize = 512;
 
 /// Free stack that a calling thread needs, in bytes.
 pub const STACK: usize = 655_360;
@@ -203,6 +206,10 @@ pub mod lent {
     pub fn numbers_by(sheet: &[u8], mode: u32, out: &mut [u8]) -> Result<u64, Refusal> {
         call(out, |p, n| unsafe { sheet_numbers_by(sheet.as_ptr(), sheet.len(), mode, p, n) })
     }
+    /// The double area of each polygon, read in the mode of this number, 8 bytes each; the item is the polygons.
+    pub fn areas(sheet: &[u8], mode: u32, out: &mut [u8]) -> Result<u64, Refusal> {
+        call(out, |p, n| unsafe { sheet_areas(sheet.as_ptr(), sheet.len(), mode, p, n) })
+    }
     /// [`owner_sets`] in the mode of this number.
     pub fn owner_sets_by(sheet: &[u8], mode: u32, out: &mut [u8]) -> Result<u64, Refusal> {
         call(out, |p, n| unsafe { sheet_owner_sets_by(sheet.as_ptr(), sheet.len(), mode, p, n) })
@@ -348,6 +355,12 @@ pub fn position(sheet: &[u8]) -> Position {
     position_by(sheet, Mode::Present)
 }
 
+/// The double area of each polygon, in number order, in square millimetres: from the corners of its rings alone, whatever the table is, negative where clockwise
+/// rings prevail.
+pub fn areas(sheet: &[u8]) -> Result<Vec<i64>, Refusal> {
+    areas_by(sheet, Mode::Present)
+}
+
 /// The verdict on a sheet.
 pub fn verdict(sheet: &[u8]) -> Verdict {
     typed::verdict(owner_sets(sheet))
@@ -356,6 +369,13 @@ pub fn verdict(sheet: &[u8]) -> Verdict {
 /// [`numbers`] in a mode. The first number of a blob is its reference-system number.
 pub fn numbers_by(sheet: &[u8], mode: Mode) -> Result<Vec<i32>, Refusal> {
     typed::numbers(BLOB_NUMBERS_ROOM, |out| lent::numbers_by(sheet, mode as u32, out))
+}
+
+/// [`areas`] in a mode.
+pub fn areas_by(sheet: &[u8], mode: Mode) -> Result<Vec<i64>, Refusal> {
+    let mut out = [0; AREAS_ROOM];
+    let polygons = lent::areas(sheet, mode as u32, &mut out)? as usize;
+    Ok(out[..8 * polygons].chunks_exact(8).map(|b| i64::from_le_bytes(b.try_into().unwrap())).collect())
 }
 
 /// [`owner_sets`] in a mode.

@@ -1,6 +1,6 @@
 //! The safe functions on the example sheets, whose listings are stored beside them.
-use sheets::{boundary, lent, listing, numbers, owner_sets, owners, position, verdict, write, write_blob};
-use sheets::{boundary_by, listing_by, numbers_by, owner_sets_by, owners_by, position_by, verdict_by};
+use sheets::{areas, boundary, lent, listing, numbers, owner_sets, owners, position, verdict, write, write_blob};
+use sheets::{areas_by, boundary_by, listing_by, numbers_by, owner_sets_by, owners_by, position_by, verdict_by};
 use sheets::{Mode, Position, Refusal, Verdict, Way};
 
 fn example(name: &str) -> Vec<u8> {
@@ -60,6 +60,21 @@ fn each_refusal_says_what_it_is_about() {
 }
 
 #[test]
+fn areas_are_those_of_the_corners() {
+    let sheet = example("strip.wkb");
+    assert_eq!(areas(&sheet), Ok(vec![32, 32]));
+    assert!(areas(&example("not-carried.wkb")).is_ok());
+    assert_eq!(areas(&example("no-polygons.wkb")), Ok(vec![]));
+    assert_eq!(areas(&sheet[..819]), Err(Refusal { code: 1, item: 3 }));
+    let mut lent = [7; 17];
+    assert_eq!(lent::areas(&sheet, 0, &mut lent[..15]), Err(Refusal { code: 40, item: 0 }));
+    assert_eq!(lent::areas(&sheet, 4, &mut lent), Err(Refusal { code: 57, item: 0 }));
+    assert_eq!(lent, [7; 17]);
+    assert_eq!(lent::areas(&sheet, 1, &mut lent), Ok(2));
+    assert_eq!(lent, [32, 0, 0, 0, 0, 0, 0, 0, 32, 0, 0, 0, 0, 0, 0, 0, 7]);
+}
+
+#[test]
 fn a_position_comes_with_what_reading_answers() {
     let sheet = example("strip.wkb");
     assert_eq!(position(&sheet), Position { answer: Ok(304), byte: 0 });
@@ -114,6 +129,7 @@ fn a_sheet_of_the_older_edition_is_read_with_its_rings_turned() {
         assert_eq!(listing_by(older, Mode::Older, Way::Priority), listing(&sheet));
         assert_eq!(verdict_by(older, Mode::Older), Verdict::Clean);
         assert_eq!(position_by(older, Mode::Older), position(&sheet));
+        assert_eq!(areas_by(older, Mode::Older), areas(&sheet));
         assert_eq!(position_by(&older[..819], Mode::Older).byte, 804);
     }
 }

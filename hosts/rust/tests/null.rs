@@ -45,6 +45,7 @@ fn every_entry_answers_null_pointers_with_length_0() {
         sheet_listing() on sheet;
         sheet_position(0) on sheet;
         sheet_numbers_by(1) on sheet;
+        sheet_areas(1) on sheet;
         sheet_owner_sets_by(1) on sheet;
         sheet_owners_by(1, 0) on sheet;
         sheet_boundary_by(1, 0, 1) on sheet;

@@ -11,6 +11,7 @@ use lib.Seq.{length-take-le}
 use Rattle.lent.specs.Stages.{value, refused}
 use Rattle.sheet_form.specs.Numbers.{Sheet, members}
 use Rattle.sheet.specs.Held.{SheetHeld}
+use Rattle.sheet_turned.specs.Rings.{RingsFit}
 use Rattle.sheet_modes.specs.Modes.{readBy, headerBy, framed}
 use Rattle.sheet_modes.specs.Held.{aroundOf, GotAs}
 use Rattle.judged.specs.Judging.{OwnedOf}
@@ -38,7 +39,7 @@ numbers c = c .read .last .1 .1 .0
 
 -- The sheet that was read stands at the front of the lent list, and what stands around it is told.
 held : (c : tie.After-n) → let d = read-call c in
-    (n : Sheet) × (readBy members (mode d) (bytes d) ≡ value n) × (headerBy (mode d) (bytes d) ≡ aroundOf (c .n .given .0 .1 .0)) × SheetHeld members n (take (c .n .given .0 .0) (numbers d)) × (c .n .given .0 .0 ≤ length (numbers d))
+    (n : Sheet) × (readBy members (mode d) (bytes d) ≡ value n) × (headerBy (mode d) (bytes d) ≡ aroundOf (c .n .given .0 .1 .0)) × SheetHeld members n (take (c .n .given .0 .0) (numbers d)) × (c .n .given .0 .0 ≤ length (numbers d)) × RingsFit n
 held c = let d = read-call c in subst (λ r. GotAs (mode d) (bytes d) r (numbers d)) (c .n .given .1) (d .read .ensures .0)
 
 judge-requires : tie.Need-judge-requires
@@ -61,7 +62,7 @@ returns-2 c =
     let w = o .judge in
     let h = held d in
     let e = read-call d in
-    judged-as (mode e) (bytes e) (h .0) (h .1) (d .n .given .0 .0) (numbers e) (h .3) (w .last .1 .1 .0) (w .last .1 .1 .1 .0) (w .result)
+    judged-as (mode e) (bytes e) (h .0) (h .1) (d .n .given .0 .0) (numbers e) (h .3) (h .5) (w .last .1 .1 .0) (w .last .1 .1 .1 .0) (w .result)
     (subst (λ b. OwnedOf b (h .0) (w .result) (w .last .1 .1 .0) (w .last .1 .1 .1 .0)) (ap (λ a. framed a (h .0)) (sym (h .2))) (w .ensures (h .0) (h .3)))
 
 pub judged-spec : {M : Type 1} → statement M

@@ -1,10 +1,9 @@
--- `listing_figures::is_counted` meets its contract, arm by arm: a set shifted by k - 1 is the set divided by 2 ^ (k - 1). Assumes nothing.
-use mathlib.Core.Path.{_≡_, sym, _∙_, ap, subst}
+-- `listing_figures::is_counted` meets its contract, arm by arm. Assumes nothing.
+use mathlib.Core.Path.{_≡_, sym, _∙_, ap}
 use Prim.Native.Nat.{ℕ}
-use native.Mathlib.Omega.{arith}
 use borrow.Author.Needs.{needs}
 use Rattle.listing_figures.specs.declared.Figure.{Figure}
-use Rattle.listing_figures.specs.Figures.{Asked, counts}
+use Rattle.listing_figures.specs.Figures.{counts}
 use Rattle.listing_figures.specs.Standings.{isGap, isOverlap}
 use Rattle.listing_figures.proofs.is_counted.Statement.{statement}
 use Rattle.listing_figures.proofs.is_counted.Tie as tie
@@ -12,12 +11,6 @@ use Rattle.listing_figures.proofs.is_counted.Tie as tie
 -- What counts of a figure known by its variant.
 known : (figure variant : Figure) (set owner : ℕ) → figure ≡ variant → counts variant set owner ≡ counts figure set owner
 known figure variant set owner e = sym (ap (λ f. counts f set owner) e)
-
-sub-result : tie.Need-sub-result
-sub-result c = let a = subst Asked (c .before .which .given .1) (c .before .before .before .pre) in omega (arith, a)
-
-shr-result : tie.Need-shr-result
-shr-result c = let a = subst Asked (c .before .which .given .1) (c .before .before .before .pre) in omega (arith, a)
 
 returns : tie.Need-returns
 returns c = ap isGap (sym (c .enum-told2 .given .1) ∙ c .before .before .standing-of .ensures) ∙ known _ _ _ _ (c .before .before .before .enum-told .given .1)
@@ -40,9 +33,6 @@ returns-6 c = ap isOverlap (sym (c .enum-told8 .given .1) ∙ c .before .before 
 returns-7 : tie.Need-returns-7
 returns-7 c = known _ _ _ _ (c .before .which .given .1)
 
-returns-8 : tie.Need-returns-8
-returns-8 c = known _ _ _ _ (c .before .which2 .given .1)
-
 pub is-counted-spec : {M : Type 1} → statement M
 is-counted-spec =
     tie.close
@@ -58,15 +48,10 @@ is-counted-spec =
     (λ c. search needs)
     (λ c. search needs)
     (λ c. search needs)
-    sub-result
-    (λ c. search needs)
-    shr-result
-    (λ c. search needs)
     returns
     returns-2
     returns-3
     returns-4
     returns-5
     returns-6
-    returns-7
-    returns-8)
+    returns-7)

@@ -61,8 +61,8 @@ add-area c =
     let a = c .before .before .before .before .before .before .before .before .before .before .args in
     let h = c .before .before .before .before .before .before .before .before .before .before .pre in
     let l = c .before .before .before .before .before .before .loop in
-    let n = next (a .which) (now (a .sets)) (now (a .owners)) (now (a .areas)) (l .t) true (omega arith) (h .1) (h .2) (sym (c .before .before .is-counted .ensures) ∙ c .before .if1 .taken) in
-    omega (arith, l .inv .2, ap total n, chosen-less (now (a .areas)) (marksOf (a .which) (now (a .sets)) (now (a .owners))) (h .4))
+    let n = next (a .which) (now (a .sets)) (now (a .owners)) (now (a .areas)) (l .t) true (omega arith) (h .0) (h .1) (sym (c .before .before .is-counted .ensures) ∙ c .before .if1 .taken) in
+    omega (arith, l .inv .2, ap total n, chosen-less (now (a .areas)) (marksOf (a .which) (now (a .sets)) (now (a .owners))) (h .3))
 
 loop-again : tie.Need-loop-again Inv-loop μ-loop
 loop-again c =
@@ -73,10 +73,10 @@ loop-again c =
     let one = add-one (l .t) in
     ⊎-elim
     (λ w.
-    let n = next (a .which) (now (a .sets)) (now (a .owners)) (now (a .areas)) (l .t) true (omega arith) (h .1) (h .2) (sym (k .ensures) ∙ w .0 .taken) in
+    let n = next (a .which) (now (a .sets)) (now (a .owners)) (now (a .areas)) (l .t) true (omega arith) (h .0) (h .1) (sym (k .ensures) ∙ w .0 .taken) in
     (omega arith, rw one (omega (arith, l .inv .1, w .2, ap length n)), rw one (omega (arith, l .inv .2, w .3, ap total n))))
     (λ w.
-    let n = next (a .which) (now (a .sets)) (now (a .owners)) (now (a .areas)) (l .t) false (omega arith) (h .1) (h .2) (sym (k .ensures) ∙ w .0 .left) in
+    let n = next (a .which) (now (a .sets)) (now (a .owners)) (now (a .areas)) (l .t) false (omega arith) (h .0) (h .1) (sym (k .ensures) ∙ w .0 .left) in
     (omega arith, rw one (omega (arith, l .inv .1, w .1, ap length n)), rw one (omega (arith, l .inv .2, w .2, ap total n))))
     (c .if1 .came)
 

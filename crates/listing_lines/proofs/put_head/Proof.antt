@@ -1,6 +1,6 @@
 -- `listing_lines::put_head` meets its contract: each line stands behind those before it. Assumes nothing.
 use mathlib.Core.Path.{_≡_, sym, ap, _∙_}
-use mathlib.Core.Bool.{false, cond}
+use mathlib.Core.Bool.{cond}
 use mathlib.Core.List.{List, map, _++_}
 use Prim.Native.Nat.{ℕ, _+_, _≤_}
 use native.Mathlib.Omega.{arith}
@@ -10,7 +10,6 @@ use denote.Ref.{now}
 use lib.IntN.{pos}
 use lib.ListN.{length}
 use Rattle.table.specs.Sets.{chosen}
-use Rattle.repair_regions.specs.Regions.{from}
 use Rattle.lent_text.specs.Text.{lineOf}
 use Rattle.lent_text.specs.Putting.{Put}
 use Rattle.lent_text.proofs.Texts.{put-behind}
@@ -18,7 +17,7 @@ use Rattle.listing_figures.specs.declared.Figure.{Figure}
 use Rattle.listing_figures.specs.declared.Figure.the-variants.{Gaps, Overlaps}
 use Rattle.listing_figures.specs.Figures.{marksOf, total}
 use Rattle.listing_lines.specs.Lines.{sheetWord, polygonWord, gapWord, overlapWord, cleanLine, repairLine, numbered}
-use Rattle.listing_lines.specs.Printing.{areaBy, lineBy, verdictBy}
+use Rattle.listing_lines.specs.Printing.{lineBy, verdictBy}
 use Rattle.listing_lines.proofs.Lines.{behind}
 use Rattle.listing_figures.proofs.Totals.{chosen-fewer}
 use Rattle.listing_lines.proofs.put_head.Statement.{statement}
@@ -34,17 +33,17 @@ module _ (l owners areas : List ℕ) where
   few figure = chosen-fewer areas (marksOf figure l owners)
 
   -- The lines of the polygons; the lines up to them, up to the gaps, and up to the overlaps.
-  abbrev polygonLines : ℕ → List ℕ
-  polygonLines polygons = numbered polygonWord 1 (map (areaBy false l owners areas) (from 1 polygons))
+  abbrev polygonLines : List ℕ → List ℕ
+  polygonLines doubles = numbered polygonWord 1 (map pos doubles)
 
-  abbrev toPolygons : ℕ → List ℕ
-  toPolygons polygons = lineOf sheetWord (pos (length areas)) (pos polygons) ++ polygonLines polygons
+  abbrev toPolygons : List ℕ → List ℕ
+  toPolygons doubles = lineOf sheetWord (pos (length areas)) (pos (length doubles)) ++ polygonLines doubles
 
-  abbrev toGaps : ℕ → List ℕ
-  toGaps polygons = toPolygons polygons ++ lineBy gapWord Gaps l owners areas
+  abbrev toGaps : List ℕ → List ℕ
+  toGaps doubles = toPolygons doubles ++ lineBy gapWord Gaps l owners areas
 
-  abbrev toOverlaps : ℕ → List ℕ
-  toOverlaps polygons = toGaps polygons ++ lineBy overlapWord Overlaps l owners areas
+  abbrev toOverlaps : List ℕ → List ℕ
+  toOverlaps doubles = toGaps doubles ++ lineBy overlapWord Overlaps l owners areas
 
   -- A figure's line, put behind what was put.
   figure-line : {n d r k : ℕ} {put before between after : List ℕ} (word : List ℕ) (figure : Figure) → Put 0 put before r between
@@ -65,7 +64,7 @@ abbrev sheet-put : tie.After-put-line2 → tie.After-put-line
 sheet-put c = polygons-put c .before .before .before .before .before
 
 abbrev start : tie.After-put-line2 → tie.Start
-start c = sheet-put c .before .before .before .before .before .before .before
+start c = sheet-put c .before .before .before .before .before .before .before .before
 
 abbrev gaps-put : tie.After-put-line3 → tie.After-put-line2
 gaps-put c = c .before .before .before .before .before .before
@@ -74,10 +73,10 @@ abbrev overlaps-put : tie.After-struct-known2 → tie.After-put-line3
 overlaps-put c = c .before .before .before .before
 
 -- What is put so far: where it ends, that no byte of the text is lost, and what it is.
-abbrev Written : tie.Start → ℕ → (List ℕ → List ℕ → List ℕ → ℕ → List ℕ) → ℕ → List ℕ → Type 0
+abbrev Written : tie.Start → ℕ → (List ℕ → List ℕ → List ℕ → List ℕ → List ℕ) → ℕ → List ℕ → Type 0
 Written s most lines r text =
     let a = s .args in
-    (r ≤ most) × (length text ≡ length (now (a .text))) × Put 0 (lines (now (a .sets)) (now (a .owners)) (now (a .areas)) (a .polygons)) (now (a .text)) r text
+    (r ≤ most) × (length text ≡ length (now (a .text))) × Put 0 (lines (now (a .sets)) (now (a .owners)) (now (a .areas)) (now (a .doubles))) (now (a .text)) r text
 
 to-gaps : (c : tie.After-put-line2) → Written (start c) 3294 toGaps (c .put-line2 .result) (c .put-line2 .last .0)
 to-gaps c =
@@ -110,7 +109,7 @@ overlaps-many : (c : tie.After-put-line3) → let a = start (gaps-put c) .args i
 overlaps-many c = c .before .before .before .tally2 .ensures .0
 
 tally-requires-2 : tie.Need-tally-requires-2
-tally-requires-2 c κs = let f = start (c .before .before) .pre .0 in (tt, f .each-set, f .each-owner, f .few, f .small)
+tally-requires-2 c κs = let f = start (c .before .before) .pre .0 in (f .each-set, f .each-owner, f .few, f .small)
 
 put-line-requires-3 : tie.Need-put-line-requires-3
 put-line-requires-3 c κs = let g = c .before .before .before .before .before in omega (arith, to-gaps g .0, to-gaps g .1, start g .pre .2)

@@ -24,6 +24,7 @@ use Rattle.sheet_positions.proofs.Exactly.{refused-exactly, within-bytes}
 use Rattle.sheet_written.proofs.Held.{read-held}
 use Rattle.sheet_turned.specs.Rings.{RingsFit}
 use Rattle.sheet_turned.specs.Turned.{turned}
+use Rattle.sheet_turned.proofs.Turned.{turned-rings}
 use Rattle.sheet_turned.proofs.Trip.{read-rings}
 use Rattle.sheet_modes.specs.Modes.{Edition, present, older, edited}
 use Rattle.sheet_modes.specs.Held.{EndsAs}
@@ -54,12 +55,15 @@ module _ (s : List ℕ) (all : All (λ b. b < 256) s) (numbers₀ numbers : List
 
   -- The ending as it is, of the present edition.
   pub as-read : (r : Ending) → r ≡ readOf (readingOf members s) → EndsAs present s r numbers
-  as-read (Read k) e = let (n, r, h, l, f) = stood k (sym e) in (n, r, h, l)
+  as-read (Read k) e = let (n, r, h, l, f) = stood k (sym e) in (n, r, h, l, f)
   as-read (Refused code item field) e = refused-as present code item field (sym e)
 
 -- A sheet that is turned is that of the older edition.
 as-turned : (turns : Bool) → turns ≡ true → (n : Sheet) (l : List ℕ) → SheetHeld members (turned n) l → SheetHeld members (edited (cond turns older present) n) l
 as-turned turns t n l h = rw t h
+
+rings-turned : (turns : Bool) → turns ≡ true → (n : Sheet) → RingsFit (turned n) → RingsFit (edited (cond turns older present) n)
+rings-turned turns t n h = rw t h
 
 -- ---- places
 abbrev start : tie.After-read → tie.Start
@@ -114,7 +118,7 @@ returns-3 c =
     let a = length-append (w .last .0) (drop (K e) (D e .read .last .1 .1 .0)) in
     let d = length-drop (K e) (D e .read .last .1 .1 .0) in
     let t = not-false (start (D e) .args .turns) (e .before .before .if1 .left) in (
-      (n, r, as-turned _ t n _ (subst (SheetHeld members (turned n)) (sym (take-at (w .last .0) _ (K e) m)) (w .ensures .0 members n h f)), omega arith),
+      (n, r, as-turned _ t n _ (subst (SheetHeld members (turned n)) (sym (take-at (w .last .0) _ (K e) m)) (w .ensures .0 members n h f)), omega arith, rings-turned _ t n (turned-rings n f)),
       omega (arith, room _ _ _ (D e .read .ensures .1)),
     )
 

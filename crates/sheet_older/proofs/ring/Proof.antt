@@ -34,7 +34,7 @@ sum-requires c κs = let p = c .before .before .pre in (p .thing, p .rest, ring-
 
 -- What was summed up is the double area of whichever ring stands there.
 area : (c : tie.After-wrong-way) → let a = start c .args in (r : Ring) (rest : List ℤ) → RingAt (now (a .numbers)) (a .at) r rest → toZ w64 (ofZ w64 (c .before .sum .result)) ≡ ringArea r
-area c r rest w = returned (c .before .sum .result) (c .before .sum .ok) ∙ c .before .sum .ensures r rest w
+area c r rest w = returned (c .before .sum .result) (c .before .sum .ok) ∙ c .before .sum .ensures r rest w .0
 
 returns : tie.Need-returns
 returns c =

@@ -11,11 +11,10 @@ use mir.Syntax.{w64}
 use mir.Val.{SFits, toZ, ofZ}
 use mir.Facts.{toZ-ofZ}
 use Rattle.whole.proofs.Bound.{returned}
-use Rattle.whole.proofs.Sums.{all-at}
 use Rattle.plane.specs.Members.{Ring}
 use Rattle.plane.specs.Keys.{Held}
 use Rattle.sheet_sums.specs.Standing.{RingAt}
-use Rattle.sheet_sums.proofs.Summing.{Summing, ring-first, summing-begin, summing-two, summing-fits, summing-more, summing-done}
+use Rattle.sheet_sums.proofs.Summing.{Summing, ring-held, ring-first, summing-begin, summing-two, summing-fits, summing-more, summing-done}
 use Rattle.sheet_sums.proofs.sum.Statement.{statement}
 use Rattle.sheet_sums.proofs.sum.Tie as tie
 
@@ -44,19 +43,22 @@ first : (c : tie.Start Inv-loop μ-loop) → let a = c .args in
 first c = let w = ring-first (c .pre .2) in (w .0, w .1, w .2, c .pre .2 .limits .low)
 
 -- Before the closing point two points stand.
-two : (c : tie.In-loop Inv-loop μ-loop) → let a = start (c .before .before) .args in c .before .loop .here + 3 < length (now (a .numbers))
-two c = let s = start (c .before .before) in summing-two (c .before .loop .inv .1 (s .pre .0) (s .pre .1) (s .pre .2)) (omega arith)
+two : (c : tie.In-loop Inv-loop μ-loop) → let s = start (c .before .before) in let a = s .args in
+    (c .before .loop .here + 3 < length (now (a .numbers))) × (c .before .loop .here + 3 < a .at + 1 + 2 * length (s .pre .0))
+two c = let s = start (c .before .before) in
+    let t = summing-two (c .before .loop .inv .1 (s .pre .0) (s .pre .1) (s .pre .2)) (omega arith) in
+    (t .0, omega (arith, first s, t .1))
 
 loop-holds : tie.Need-loop-holds Inv-loop μ-loop
-loop-holds c = let s = start c in (all-at Held 0 (now (s .args .numbers)) _ (s .pre .2 .held) (omega (arith, first s)), λ r rest w. summing-begin w _ refl)
+loop-holds c = let s = start c in (ring-held (s .pre .2) _ (omega (arith, first s)) (omega (arith, first s)), λ r rest w. summing-begin w _ refl)
 
 product-requires : tie.Need-product-requires Inv-loop μ-loop
 product-requires c κs =
     let l = entered c .before .loop in
     let s = start (entered c .before .before) in
     let t = two (entered c) in
-    let x = all-at Held 0 (now (s .args .numbers)) (l .here) (s .pre .2 .held) (omega arith) in
-    let after = all-at Held 0 (now (s .args .numbers)) (l .here + 3) (s .pre .2 .held) t in
+    let x = ring-held (s .pre .2) (l .here) (omega arith) (omega arith) in
+    let after = ring-held (s .pre .2) (l .here + 3) (t .1) (t .0) in
     (omega arith, omega (arith, l .inv .0), omega (arith, l .inv .0))
 
 -- The corner that stands here is summed up.
@@ -77,7 +79,7 @@ loop-again : tie.Need-loop-again Inv-loop μ-loop
 loop-again c =
     let l = entered (again c) .before .loop in
     let s = start (entered (again c) .before .before) in
-    (all-at Held 0 (now (s .args .numbers)) (l .here + 1) (s .pre .2 .held) (omega (arith, two (entered (again c)))), λ r rest w. rw (toZ-ofZ {w = w64} (fits (c .before))) (more (c .before) r rest w))
+    (ring-held (s .pre .2) (l .here + 1) (omega (arith, two (entered (again c)))) (omega (arith, two (entered (again c)))), λ r rest w. rw (toZ-ofZ {w = w64} (fits (c .before))) (more (c .before) r rest w))
 
 returns : tie.Need-returns Inv-loop μ-loop
 returns c = λ r rest w. summing-done (c .before .loop .inv .1 r rest w) (omega arith)

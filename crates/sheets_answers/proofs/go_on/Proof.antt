@@ -10,15 +10,15 @@ use Rattle.outcomes.proofs.Judged.{owner-sets-on, owners-on}
 use Rattle.sheets_answers.proofs.go_on.Statement.{statement}
 use Rattle.sheets_answers.proofs.go_on.Tie as tie
 
-owner-sets-requires : tie.Need-owner-sets-requires
-owner-sets-requires c κs = few (c .before .before .before .before .before .before .before .pre .1)
+each-requires : tie.Need-each-requires
+each-requires c κs = few (c .before .before .before .before .before .before .before .pre .1)
 
 owners-requires : tie.Need-owners-requires
 owners-requires c κs = let w = c .before .before .before .before .before .before .before .pre .1 in (pairs w, few w, table-in w)
 
 returns : tie.Need-returns
 returns c = λ j w.
-    let r = c .before .before .owner-sets in
+    let r = c .before .before .each in
     let e = c .before .before .before .before in
     let a = e .before .before .before .before .before .before .args in
     subst (λ o. Answered o (now (a .out)) (r .result) (r .last .1 .0)) (owner-sets-on w (a .way) ∙ sym (ap (λ x. goesOn (a .way) x j) (e .enum-told .given .1))) (r .ensures)
@@ -42,7 +42,7 @@ go-on-spec =
     tie.close
     (tie.spec
     (λ c. search needs)
-    owner-sets-requires
+    each-requires
     (λ c. search needs)
     owners-requires
     (λ c. search needs)

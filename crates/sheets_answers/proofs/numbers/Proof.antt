@@ -16,11 +16,12 @@ use Rattle.lent.proofs.Answered.{answered-refusal}
 use Rattle.lent_little.specs.Held.{heldBytes}
 use Rattle.sheet_form.specs.Numbers.{Sheet, members}
 use Rattle.sheet.specs.Held.{SheetHeld}
+use Rattle.sheet_turned.specs.Rings.{RingsFit}
 use Rattle.sheet_modes.specs.declared.Around.{Around}
 use Rattle.sheet_modes.specs.Modes.{headerBy, readBy, framed}
 use Rattle.sheet_modes.specs.Held.{aroundOf, GotAs}
-use Rattle.outcomes.specs.Entries.{firstOf, sheetNumbersBy}
-use Rattle.outcomes.proofs.Outcomes.{numbers-read, numbers-unframed, numbers-refused}
+use Rattle.outcomes.specs.Entries.{firstOf, formOutcome, sheetNumbersBy}
+use Rattle.outcomes.proofs.Outcomes.{goes-on, unframed, unread, numbers-held}
 use Rattle.sheets_answers.proofs.numbers.Statement.{statement}
 use Rattle.sheets_answers.proofs.numbers.Tie as tie
 
@@ -49,7 +50,7 @@ module _ (a : tie.After-n) where
   abbrev around : Around
   around = a .n .given .0 .1 .0
 
-  pub held : (n : Sheet) × (readBy members (M D) (S D) ≡ value n) × (headerBy (M D) (S D) ≡ aroundOf around) × SheetHeld members n (take K (left D)) × (K ≤ length (left D))
+  pub held : (n : Sheet) × (readBy members (M D) (S D) ≡ value n) × (headerBy (M D) (S D) ≡ aroundOf around) × SheetHeld members n (take K (left D)) × (K ≤ length (left D)) × RingsFit n
   held = subst (λ r. GotAs (M D) (S D) r (left D)) (a .n .given .1) (D .read .ensures .0)
 
   pub few : K ≤ 16450
@@ -62,7 +63,8 @@ module _ (a : tie.After-n) where
   pub outcome : framed (headerBy (M D) (S D)) (held .0) ≡ true
       → sheetNumbersBy (M D) (S D) ≡ bytes (length (firstOf (aroundOf around)) + 4 * K) (firstOf (aroundOf around) ++ flatMap heldBytes (take K (left D)))
   outcome e =
-      numbers-read (M D) (S D) (held .0) (held .1) (take K (left D)) (held .3) e
+      goes-on (formOutcome (headerBy (M D) (S D))) (M D) (S D) (held .0) (held .1) e
+      ∙ numbers-held (headerBy (M D) (S D)) (held .0) (take K (left D)) (held .3)
       ∙ ap₂ (λ o k. bytes (length (firstOf o) + 4 * k) (firstOf o ++ flatMap heldBytes (take K (left D)))) (held .2) as-many
 
 -- The envelope was compared.
@@ -81,13 +83,13 @@ returns : tie.Need-returns
 returns c =
     let f = c .before in
     let a = A f in
-    answered-refusal _ _ 52 0 (numbers-unframed (M (D a)) (S (D a)) (held a .0) (held a .1) (sym (compared f) ∙ not-true (f .framed .result) (c .if1 .taken)))
+    answered-refusal _ _ 52 0 (unframed (formOutcome (headerBy (M (D a)) (S (D a)))) (M (D a)) (S (D a)) (held a .0) (held a .1) (sym (compared f) ∙ not-true (f .framed .result) (c .if1 .taken)))
 
 returns-2 : tie.Need-returns-2
 returns-2 c =
     let k = c .before in
     let d = k .before .before .before in
-    answered-refusal _ _ _ _ (numbers-refused (M d) (S d) _ _ (subst (λ r. GotAs (M d) (S d) r (left d)) (k .code .given .1) (d .read .ensures .0) .0))
+    answered-refusal _ _ _ _ (unread (formOutcome (headerBy (M d) (S d))) (M d) (S d) _ _ (subst (λ r. GotAs (M d) (S d) r (left d)) (k .code .given .1) (d .read .ensures .0) .0))
 
 returns-3 : tie.Need-returns-3
 returns-3 c =

@@ -13,6 +13,7 @@ use Rattle.lent.specs.Answered.{Outcome, Answered}
 use Rattle.lent_little.proofs.Ordered.{length-bytes}
 use Rattle.sheet_form.specs.Numbers.{Sheet, members}
 use Rattle.sheet.specs.Held.{SheetHeld}
+use Rattle.sheet_turned.specs.Rings.{RingsFit}
 use Rattle.sheet_modes.specs.declared.Around.{Around}
 use Rattle.sheet_modes.specs.declared.Around.the-variants.{Nothing, Header}
 use Rattle.sheet_modes.specs.Modes.{headerBy, readBy, framed}
@@ -47,7 +48,7 @@ module _ (a : tie.After-n) where
   abbrev around : Around
   around = a .n .given .0 .1 .0
 
-  pub held : (n : Sheet) × (readBy members (M D) (S D) ≡ value n) × (headerBy (M D) (S D) ≡ aroundOf around) × SheetHeld members n (take K (left D)) × (K ≤ length (left D))
+  pub held : (n : Sheet) × (readBy members (M D) (S D) ≡ value n) × (headerBy (M D) (S D) ≡ aroundOf around) × SheetHeld members n (take K (left D)) × (K ≤ length (left D)) × RingsFit n
   held = subst (λ r. GotAs (M D) (S D) r (left D)) (a .n .given .1) (D .read .ensures .0)
 
   pub few : K ≤ 16450

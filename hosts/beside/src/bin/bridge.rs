@@ -3,8 +3,8 @@
 
 use beside::call;
 use independent::bridge::{before_call, Function};
-use sheets::{boundary, listing, numbers, owner_sets, owners, position, verdict, write, write_blob};
-use sheets::{boundary_by, listing_by, numbers_by, owner_sets_by, owners_by, position_by, verdict_by};
+use sheets::{areas, boundary, listing, numbers, owner_sets, owners, position, verdict, write, write_blob};
+use sheets::{areas_by, boundary_by, listing_by, numbers_by, owner_sets_by, owners_by, position_by, verdict_by};
 use sheets::{Mode, Point, Position, Refusal, Sheet, Verdict, Way};
 use std::io::{BufRead, BufReader, Read, Write};
 
@@ -78,6 +78,8 @@ fn typed(function: u8, [mode_number, way_number, polygon]: [u32; 3], input: &[u8
         11 => boundary_by(input, mode, way, polygon).map(of_sides),
         12 => Ok(counted(listing_by(input, mode, way).into_bytes())),
         13 => write_blob(&whole_numbers(input)).map(counted),
+        14 if mode == Mode::Present => areas(input).map(of_areas),
+        14 => areas_by(input, mode).map(of_areas),
         function => panic!("there is no function {function}"),
     }
 }
@@ -109,6 +111,10 @@ fn by_name(numbers: &[i32]) -> Vec<i32> {
 
 fn of_sets(sets: Vec<u64>) -> (u64, Vec<u8>) {
     (sets.len() as u64, sets.iter().flat_map(|set| set.to_le_bytes()).collect())
+}
+
+fn of_areas(areas: Vec<i64>) -> (u64, Vec<u8>) {
+    (areas.len() as u64, areas.iter().flat_map(|area| area.to_le_bytes()).collect())
 }
 
 fn of_sides(sides: Vec<(Point, Point)>) -> (u64, Vec<u8>) {

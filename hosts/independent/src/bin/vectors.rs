@@ -93,6 +93,7 @@ fn entry(name: &str, asked: &str) -> Entry {
         "sheet_listing" => Entry::Listing,
         "sheet_position" => Entry::Position(mode()),
         "sheet_numbers_by" => Entry::NumbersBy(mode()),
+        "sheet_areas" => Entry::Areas(mode()),
         "sheet_owner_sets_by" => Entry::OwnerSetsBy(mode()),
         "sheet_owners_by" => Entry::OwnersBy(mode(), way()),
         "sheet_boundary_by" => Entry::BoundaryBy(mode(), way(), polygon()),

@@ -28,6 +28,8 @@ pub enum Outcome {
     Refused(u8, u64),
     /// It can't be read as a sheet, by this code and item, and the position of the field at fault is this one.
     Unread(u8, u64, u64),
+    /// Its polygons have these double areas.
+    Areas(Vec<i64>),
     /// The first in the present mode, the second in the older one.
     InModes(Box<Outcome>, Box<Outcome>),
     /// These numbers make up a sheet.

@@ -1,9 +1,10 @@
 //! The calls that the program entries_try makes, as its frames, and the lines that it is to print.
 //!
 //! A frame is a byte for the entry (0 numbers, 1 write, 2 owner sets, 3 owners, 4 boundary, 5 listing, 6 position; 7 numbers, 8
-//! owner sets, 9 owners, 10 boundary, 11 listing by a mode and a way; 12 write blob), u32 length of the input, u32 number of lent
+//! owner sets, 9 owners, 10 boundary, 11 listing by a mode and a way; 12 write blob; 13
+//! areas), u32 length of the input, u32 number of lent
 //! bytes, and the input, little-endian; before a sheet that the boundary entry takes stands the polygon's number, a u32, before one that the
-//! position entry takes the mode, a u32, and before one that those from 7 to 11 take mode, way and polygon, three u32. A line has
+//! position entry and the areas entry take the mode, a u32, and before one that those from 7 to 11 take mode, way and polygon, three u32. A line has
 //! the packed answer, a blank, and a checksum of all lent bytes after the call, each 170 before it.
 //!
 //! The calls are few, chosen for what they try; `differ` makes those of all cases, on libsheets.a.
@@ -85,10 +86,11 @@ fn calls() -> Vec<Call> {
 }
 
 /// The entries in this mode and this way, asked for this polygon.
-fn by((mode, way, polygon): (u32, u32, u32)) -> [Entry; 5] {
+fn by((mode, way, polygon): (u32, u32, u32)) -> [Entry; 6] {
     let repaired = Entry::BoundaryBy(mode, way, polygon);
     [
         Entry::NumbersBy(mode),
+        Entry::Areas(mode),
         Entry::OwnerSetsBy(mode),
         Entry::OwnersBy(mode, way),
         repaired,
@@ -105,7 +107,7 @@ fn chosen_in_modes(entry: Entry) -> Vec<Case> {
 fn chosen_blobs(entry: Entry) -> Vec<Case> {
     let mut shortest = shortest(entry, Case::is_blob);
     match entry {
-        Entry::NumbersBy(2) | Entry::OwnerSetsBy(2) | Entry::Position(2) => (),
+        Entry::NumbersBy(2) | Entry::Areas(2) | Entry::OwnerSetsBy(2) | Entry::Position(2) => (),
         Entry::OwnersBy(2, _) | Entry::BoundaryBy(2, ..) => shortest.retain(|code, _| (50..=52).contains(code)),
         _ => shortest.clear(),
     }
@@ -186,6 +188,7 @@ impl Call {
             Entry::BoundaryBy(mode, way, polygon) => (10, vec![mode, way, polygon]),
             Entry::ListingBy(mode, way) => (11, vec![mode, way, 0]),
             Entry::WriteBlob => (12, vec![]),
+            Entry::Areas(mode) => (13, vec![mode]),
         };
         let asked: Vec<u8> = asked.iter().flat_map(|number| number.to_le_bytes()).collect();
         let length = (asked.len() + self.input.len()) as u32;
@@ -244,7 +247,7 @@ mod tests {
         let blobs = [50, 51, 52, 57];
         let repaired =
             [by(&by(&owners, &blobs), &[54]), by(&by(&boundary, &blobs), &[54]), vec![0, 40], vec![0, 40, 42]];
-        let in_modes = [&[by(&reading, &blobs), by(&judging, &blobs)][..], &repaired].concat();
+        let in_modes = [&[by(&reading, &blobs), by(&judging, &blobs)][..], &repaired, &[by(&reading, &blobs)]].concat();
         let wanted: Vec<Vec<u8>> = without.iter().map(|codes| codes.to_vec()).chain(in_modes).collect();
         let stored: BTreeSet<(u8, u8)> = tried().into_iter().map(|(entry, code, _)| (entry, code)).collect();
         let numbered = wanted.iter().enumerate();
@@ -254,7 +257,7 @@ mod tests {
 
     #[test]
     fn every_room_of_every_entry_is_stored() {
-        for entry in 0..13 {
+        for entry in 0..14 {
             let calls: Vec<_> = tried().into_iter().filter(|tried| tried.0 == entry).collect();
             assert!(calls.contains(&(entry, 0, Some(0))), "exact room for {entry}");
             assert!(calls.contains(&(entry, 0, Some(9))), "lent bytes past the answer for {entry}");
@@ -265,13 +268,13 @@ mod tests {
         let of = |less: fn(usize) -> usize| -> BTreeSet<u8> {
             calls().iter().filter(|call| short(call, less)).map(|call| call.frame()[0]).collect()
         };
-        assert_eq!((of(|length| length - 1), of(|_| 0)), ((0..13).collect(), (0..13).collect()));
+        assert_eq!((of(|length| length - 1), of(|_| 0)), ((0..14).collect(), (0..14).collect()));
     }
 
     #[test]
     fn the_stored_input_is_small() {
         let (frames, lines) = frames_and_lines();
-        assert!(frames.len() < 330_000, "{} bytes", frames.len());
+        assert!(frames.len() < 360_000, "{} bytes", frames.len());
         assert!(lines.split(|byte| *byte == b'\n').count() > 200);
     }
 }

@@ -83,7 +83,8 @@ impl Calls {
             (_, true) => [self.by_all(place, &asked), vec![Entry::WriteBlob]].concat(),
             (Inputs::Largest(_), _) => {
                 let longest = vec![Entry::OwnersBy(0, 1), Entry::BoundaryBy(0, 1, asked[0]), Entry::ListingBy(0, 1)];
-                [vec![Entry::Position(0), Entry::WriteBlob], longest, in_mode(1), in_mode(2), in_mode(3)].concat()
+                let in_mode_0 = vec![Entry::Position(0), Entry::Areas(0), Entry::WriteBlob];
+                [in_mode_0, longest, in_mode(1), in_mode(2), in_mode(3)].concat()
             }
             (Inputs::Cases(_), _) if of_blobs => [in_mode(2), in_mode(3)].concat(),
             _ if !with_blob => self.by_some(place, asked[0]),
@@ -107,7 +108,12 @@ impl Calls {
         let no_way = self.unknown(&NO_WAYS, mixed(place, 102));
         let mut entries = other.map(in_mode).concat();
         for mode in own.into_iter().chain(no_mode) {
-            entries.extend([Entry::NumbersBy(mode), Entry::OwnerSetsBy(mode), Entry::Position(mode)]);
+            entries.extend([
+                Entry::NumbersBy(mode),
+                Entry::OwnerSetsBy(mode),
+                Entry::Position(mode),
+                Entry::Areas(mode),
+            ]);
             for way in WAYS.into_iter().chain(no_way) {
                 entries.extend([Entry::OwnersBy(mode, way), Entry::ListingBy(mode, way)]);
                 let known = Some(mode) != no_mode && Some(way) != no_way;
@@ -118,18 +124,22 @@ impl Calls {
         entries
     }
 
-    /// The numbers in the older mode, the position in the present one and in another, and one of the other entries in that: mostly
-    /// the older one, and mostly in a known way.
+    /// The numbers in the older mode, the position in the present one and in another, the areas in both and that one, and one of the
+    /// other entries in that: mostly the older one, and mostly in a known way.
     fn by_some(&self, place: u64, polygon: u32) -> Vec<Entry> {
         let mode = self.chosen(place, 101, &MODES, &NO_MODES);
-        vec![Entry::Position(0), Entry::NumbersBy(1), Entry::Position(mode), self.one(place, 103, mode, polygon)]
+        let read = [Entry::Position(0), Entry::NumbersBy(1), Entry::Position(mode), Entry::Areas(0), Entry::Areas(1)];
+        let unknown = Some(Entry::Areas(mode)).filter(|_| mode > 1);
+        read.into_iter().chain(unknown).chain([self.one(place, 103, mode, polygon)]).collect()
     }
 
-    /// The blob writer, and of a blob the numbers, the position and one of the other entries, each in one of both modes.
+    /// The blob writer, and of a blob the numbers, the position and one of the other entries, each in one of both modes, and the areas
+    /// in both.
     fn of_blob(&self, place: u64, polygon: u32) -> Vec<Entry> {
         let [first, second] = [104, 105].map(|purpose| BLOB_MODES[mixed(place, purpose) as usize % 2]);
         let other = self.one(place, 106, second, polygon);
-        vec![Entry::WriteBlob, Entry::NumbersBy(first), Entry::Position(second), other]
+        let areas = BLOB_MODES.map(Entry::Areas);
+        [&[Entry::WriteBlob, Entry::NumbersBy(first), Entry::Position(second), other][..], &areas].concat()
     }
 
     /// One of the known numbers, mostly the last, or one that isn't known.
@@ -164,7 +174,7 @@ impl Calls {
 
 /// Each entry that takes a mode, in this one.
 fn in_mode(mode: u32) -> Vec<Entry> {
-    let read = [Entry::Position(mode), Entry::NumbersBy(mode), Entry::OwnerSetsBy(mode)];
+    let read = [Entry::Position(mode), Entry::NumbersBy(mode), Entry::Areas(mode), Entry::OwnerSetsBy(mode)];
     [&read[..], &[Entry::OwnersBy(mode, 0), Entry::BoundaryBy(mode, 0, 1), Entry::ListingBy(mode, 0)]].concat()
 }
 

@@ -1,0 +1,2 @@
+-- The double areas of what stands among held numbers.
+pub mod Standing
