@@ -1,6 +1,7 @@
 #!/usr/bin/python3
 """Blobs between the library, GDAL and SQLite: those of a GeoPackage that GDAL writes are read, and are the library's own byte for byte; those that the library
-writes, put into a table by SQLite, are read by GDAL and by SQLite.
+writes, put into a table by SQLite, are read by GDAL, by its ogrinfo too, and by SQLite. The checker and the gate say of each row of GDAL's files, and of such a
+file with a view, an R-tree and geometries of every kind, what the independent program says of its blob.
 
     /usr/bin/python3 tests/geopackage.py BRIDGE CHECKER GATE    'N passed, M failed', with Debian's Python, which has GDAL (python3-gdal)
 
@@ -8,6 +9,7 @@ BRIDGE, CHECKER and GATE are commands, with an emulator before them where one is
 """
 import glob
 import os
+import re
 import sqlite3
 import struct
 import subprocess
@@ -16,6 +18,8 @@ import tempfile
 
 from osgeo import gdal, ogr, osr
 
+import independent
+from programs import Programs, folder_of, line, told
 from tally import tally
 
 EXAMPLES = os.path.join(os.path.dirname(os.path.dirname(os.path.abspath(__file__))), "examples")
@@ -151,13 +155,60 @@ def refused(bridge, path):
     return [equal("strange blobs of " + table, [call(bridge, NUMBERS_BY, BLOB, blob)[0] for blob in blobs_of(path, table)], [50, 51]) for table in TABLES]
 
 
+def by_ogrinfo(path, rows):
+    """The library's blobs are opened by ogrinfo, which prints the same geometry."""
+    printed = subprocess.run(["ogrinfo", "-ro", "-q", path, "utm"], check=True, stdout=subprocess.PIPE, stderr=subprocess.DEVNULL, text=True).stdout
+    found = {int(fid): text for fid, text in re.findall(r"^OGRFeature\(utm\):(\d+)\n(?:  .* = .*\n)*  (GEOMETRYCOLLECTION .*)$", printed, re.M)}
+    known = sheets()
+    return [equal(name + " by ogrinfo", bytes(ogr.CreateGeometryFromWkt(found.get(fid, "POINT EMPTY")).ExportToIsoWkb(ogr.wkbNDR)), known[name]) for name, fid in rows.items()]
+
+
+# Geometries of other kinds than a sheet.
+KINDS = ("POINT (1 2)", "LINESTRING (0 0,1 1)", "POLYGON ((0 0,1 0,1 1,0 0))", "MULTIPOLYGON (((0 0,1 0,1 1,0 0)))", "TIN (((0 0,1 0,1 1,0 0)))", "CURVEPOLYGON ((0 0,1 0,1 1,0 0))",
+         "GEOMETRYCOLLECTION (POINT (1 2))", "GEOMETRYCOLLECTION EMPTY", "POINT EMPTY", "POINT Z (1 2 3)", "GEOMETRYCOLLECTION Z (TIN Z (((0 0 1,2 0 1,2 4 1,0 0 1))))")
+
+
+def mixed(path):
+    """A GeoPackage by GDAL: a table with an R-tree, whose rows have sheets, other geometries, and none; and a view of it, as GDAL's users add one."""
+    package = ogr.GetDriverByName("GPKG").CreateDataSource(path)
+    table = package.CreateLayer("mixed", None, ogr.wkbUnknown, ["SPATIAL_INDEX=YES", "FID=number", "GEOMETRY_NAME=the shape"])
+    for geometry in [ogr.CreateGeometryFromWkb(sheet) for sheet in sheets().values()] + [ogr.CreateGeometryFromWkt(text) for text in KINDS] + [None]:
+        put(table, geometry)
+    table = package = None
+    with sqlite3.connect(path) as base:
+        base.executescript("""CREATE VIEW part AS SELECT number AS OGC_FID, "the shape" AS g FROM mixed WHERE number % 2;
+            INSERT INTO gpkg_contents (table_name, identifier, data_type, srs_id) VALUES ('part', 'part', 'features', 0);
+            INSERT INTO gpkg_geometry_columns VALUES ('part', 'g', 'GEOMETRY', 0, 0, 0)""")
+    package = ogr.Open(path)
+    indexed = [name for name, in base.execute("SELECT name FROM sqlite_master")]
+    return [equal("an R-tree", "rtree_mixed_the shape" in indexed, True), equal("the view by GDAL", package.GetLayerByName("part").GetFeatureCount() > 5, True)]
+
+
+def by_both(checker, gate, path, tables):
+    """Both programs on a GeoPackage, in the present mode and in the older one: of each row what the independent program says of its blob."""
+    with sqlite3.connect(path) as base:
+        rows = [("%s/%s/%d" % (path, table, fid), blob or b"") for table, (number, column) in sorted(tables.items())
+                for fid, blob in base.execute('SELECT %s, "%s" FROM %s ORDER BY 1' % (number, column, table))]
+    outcomes = [equal("enough rows", len(rows) > 10, True)]
+    with folder_of({"%06d" % k: blob for k, (_, blob) in enumerate(rows)}) as folder:
+        blobs = [os.path.join(os.fsdecode(folder), "%06d" % k) for k in range(len(rows))]
+        for mode, words in ((2, []), (3, ["--older"])):
+            lines = [line(name, told(verdict)) for (name, _), (verdict, _) in zip(rows, independent.answers(blobs, mode))]
+            outcomes += Programs(checker, gate).same(path, [*words, path], lines)
+    return outcomes
+
+
 def main(bridge, checker, gate):
     ogr.UseExceptions()
     gdal.PushErrorHandler("CPLQuietErrorHandler")  # it says that a table with a TIN isn't every program's
     with tempfile.TemporaryDirectory() as folder:
         path = os.path.join(folder, "sheets.gpkg")
         write(path, [ogr.CreateGeometryFromWkb(sheet) for sheet in sheets().values()])
-        outcomes = read_and_written(bridge, checker, gate, path) + read_by_others(path, put_by_sqlite(bridge, path))
+        outcomes = read_and_written(bridge, checker, gate, path) + by_both(checker, gate, path, dict.fromkeys(TABLES, ("fid", "geom")))
+        rows = put_by_sqlite(bridge, path)
+        outcomes += read_by_others(path, rows) + by_ogrinfo(path, rows) + by_both(checker, gate, path, dict.fromkeys(TABLES, ("fid", "geom")))
+        other = os.path.join(folder, "mixed.gpkg")
+        outcomes += mixed(other) + by_both(checker, gate, other, {"mixed": ("number", "the shape"), "part": ("OGC_FID", "g")})
         return tally(outcomes + refused(bridge, os.path.join(folder, "strange.gpkg")))
 
 

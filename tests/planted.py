@@ -81,7 +81,7 @@ class Copy:
             wrapped = [[self.differ, "--wrapped", bridge, *inputs] for inputs in (("largest", "6"), ("seeds", "60"))]
             return wrapped + [[self.differ, bridge, "seeds", "200"]] * (part == "crate")
         programs = (self.made_by_cmake("checker"), self.gate) if part == "checker" else (self.checker, self.made_by_cargo(GATES, TARGET, "release", "gate"))
-        return [[sys.executable, os.path.join(ROOT, "tests", "programs.py"), "--sheets", *programs, self.folder]]
+        return [[sys.executable, os.path.join(ROOT, "tests", suite), "--sheets", *programs, self.folder] for suite in ("programs.py", "packages.py")]
 
     def tried(self, part):
         """What became of the part as it stands: 'not built', 'passed', 'failed', or 'broken' where the test doesn't say."""

@@ -100,7 +100,8 @@ def as_line(answer):
     """The verdict line that one of the gate's JSON objects stands for; its name is shown already."""
     place = " at byte {:,}".format(answer["position"]) if isinstance(answer.get("position"), int) else ""
     said = {"refused": "refused {code} {item}{place}: {reason}", "unreadable": "could not be read: {reason}"}.get(answer["verdict"], answer["verdict"])
-    return "%s: %s" % (answer["file"], said.format(place=place, **answer))
+    name = "/".join(answer[part] for part in ("file", "table", "id") if part in answer)
+    return "%s: %s" % (name, said.format(place=place, **answer))
 
 
 # ---------------------------------------------------------------------------------------------------------------- running
@@ -233,7 +234,7 @@ def generated(programs, folder):
     for mode, (words, lines) in enumerate(zip(MODES, every)):
         end, other = ENDS if mode < 2 else ENDS[::-1]
         passed = files_of(folder, other)
-        messages = ["gate: " + line(path, "passed over: its name doesn't end in " + end) for path in passed]
+        messages = ["gate: " + line(path, "passed over: its name doesn't end in %s or .gpkg" % end) for path in passed]
         outcomes += [
             equal("the folder", run(programs.gate, folder, *words), (2, lines + [summary(lines, len(passed))], messages)),
             equal("kinds", {kind(said) for said in lines}, {0, 1, 2}),
@@ -371,8 +372,8 @@ def blobs(programs, cases):
         def path(name):
             return os.path.join(folder, os.fsencode(name))
         lines = [line(path("a.gpb"), "repair"), line(path("b/c.GPB"), EMPTY)]
-        passed = ["gate: " + line(path(name), "passed over: its name doesn't end in .gpb") for name in ("d.wkb", "e/f.wkb")]
-        nothing = [unread(path("e"), "there is no blob in it, no file whose name ends in .gpb")]
+        passed = ["gate: " + line(path(name), "passed over: its name doesn't end in .gpb or .gpkg") for name in ("d.wkb", "e/f.wkb")]
+        nothing = [unread(path("e"), "there is no blob in it, no file whose name ends in .gpb or .gpkg")]
         outcomes += [
             equal("a folder of blobs", run(programs.gate, "--blob", folder), (2, lines + [summary(lines, 2)], passed)),
             equal("no blob in it", run(programs.gate, "--blob", path("e")), (3, nothing + [summary(nothing, 1)], passed[1:])),
@@ -447,7 +448,7 @@ def any_names(programs):
         outcomes += programs.same("names", paths, [line(path, EMPTY) for path in paths])
         taken, passed = ([path for path in paths if path.endswith(b".wkb") == is_sheet] for is_sheet in (True, False))
         lines = [line(path, EMPTY) for path in taken]
-        messages = ["gate: " + line(path, "passed over: its name doesn't end in .wkb") for path in passed]
+        messages = ["gate: " + line(path, "passed over: its name doesn't end in .wkb or .gpkg") for path in passed]
         outcomes.append(equal("names in a folder", run(programs.gate, folder), (2, lines + [summary(lines, len(passed))], messages)))
         for command in (programs.checker, programs.batch, programs.gate, programs.gate + " --json"):
             with start(command, *paths) as program:
@@ -509,7 +510,7 @@ def folders(programs):
         said = {"a-b.WKB": EMPTY, "a.wkb": EMPTY, "a/b.wkb": EMPTY, "a/c/d.Wkb": EMPTY, "b.wkb": EMPTY, "gone.wkb": 2, "link.wkb": EMPTY,
                 "pipe": "it is a pipe", "x.wkb/y.wkb": EMPTY}
         flat = {**{name: what for name, what in said.items() if "/" not in name}, "x.wkb": "it is a folder"}
-        name, to_folder, left_out = "its name doesn't end in .wkb", "it is a link to a folder", "it is a folder, and --flat leaves those out"
+        name, to_folder, left_out = "its name doesn't end in .wkb or .gpkg", "it is a link to a folder", "it is a folder, and --flat leaves those out"
         passed = {"a/b.wkb.bak": name, "a/up": to_folder, "a/wkb": name, "gone": name, "no/sheet": name, "notes.txt": name, "z.wkb": to_folder}
         flat_passed = {"a": left_out, "gone": name, "no": left_out, "notes.txt": name, "z.wkb": to_folder}
         outcomes = []
@@ -525,7 +526,7 @@ def folders(programs):
         os.mkdir(path("empty"))
         messages = ["gate: " + line(path("no/sheet"), "passed over: " + name)]
         for here, told in (("empty", []), ("no", messages)):
-            lines = [line(path("b.wkb"), EMPTY), unread(path(here), "there is no sheet in it, no file whose name ends in .wkb")]
+            lines = [line(path("b.wkb"), EMPTY), unread(path(here), "there is no sheet in it, no file whose name ends in .wkb or .gpkg")]
             outcomes.append(equal("nothing in it", run(programs.gate, path("b.wkb"), path(here)), (3, lines + [summary(lines, len(told))], told)))
     return outcomes
 
@@ -651,18 +652,23 @@ def as_they_come(programs, sheets, lines):
     return outcomes
 
 
-def progress(gate, sheet):
-    """A progress line of the gate on a terminal, where the verdicts go elsewhere."""
+def progress_lines(gate, words, first_and_last):
+    """A progress line of the gate on a terminal, where the verdicts go elsewhere; standard input, the first sheet, is waited for."""
     ours, theirs = pty.openpty()
-    with start(gate, "-", sheet, stderr=theirs) as program:
+    with start(gate, *words, stderr=theirs) as program:
         os.close(theirs)
         time.sleep(3)
         program.stdin.close()
         program.stdout.read()
-        said = os.read(ours, 1000) if select.select([ours], [], [], 5)[0] else b""
+        said = b""
+        while select.select([ours], [], [], 5 if said == b"" else 0.1)[0]:
+            with contextlib.suppress(OSError):  # nobody has the terminal open any longer
+                said += os.read(ours, 1 << 16)
+                continue
+            break
     os.close(ours)
     drawn = [text.strip() for text in re.split(rb"[\r\n]|\x1b\[\d*[A-Z]", said) if text.strip()]
-    return [equal("progress", (drawn[:1], drawn[-1:]), ([b"1 of 2 sheets checked"], [b"2 of 2 sheets checked"]))]
+    return [equal("progress", (drawn[:1], drawn[-1:]), first_and_last)]
 
 
 def main(checker, gate, folder):
@@ -674,7 +680,7 @@ def main(checker, gate, folder):
         independent.cases(cases)
         outcomes += sentences(programs, cases) + older_edition(programs, cases) + longest_boundary(programs, cases) + blobs(programs, cases) + long_files(programs, cases)
     outcomes += any_names(programs) + irregular(programs) + folders(programs) + options(programs)
-    outcomes += unwritable(programs, stored) + as_they_come(programs, stored, lines) + progress(programs.gate, stored[0])
+    outcomes += unwritable(programs, stored) + as_they_come(programs, stored, lines) + progress_lines(programs.gate, ["-", stored[0]], ([b"1 of 2 sheets checked"], [b"2 of 2 sheets checked"]))
     if len(checker.split()) == 1:  # an emulator needs memory of its own
         outcomes += out_of_memory("checker", programs.batch, stored) + out_of_memory("gate", programs.gate, stored)
         outcomes += steady(programs) + little_stack(programs, stored)

@@ -1,5 +1,6 @@
 // The desktop checker's command line: prints the listing of sheets, or one verdict line for each.
 #include "files.hpp"
+#include "geopackage.hpp"
 #include "names.hpp"
 #include "options.hpp"
 
@@ -67,6 +68,15 @@ struct How {
     sheets::Way way;
 };
 
+// How sheets are read of which this is said.
+Mode mode_of(bool older, bool blob) {
+    if (blob) return older ? Mode::OlderBlob : Mode::Blob;
+    return older ? Mode::Older : Mode::Present;
+}
+
+// How blobs are read where other files are read so.
+Mode of_blobs(Mode mode) { return mode_of(mode == Mode::Older || mode == Mode::OlderBlob, true); }
+
 // A sheet, and how it is read and its gaps are filled.
 struct Sheet {
     sheets::Bytes bytes;
@@ -97,35 +107,51 @@ std::string line(const std::string &path, const Sheet &sheet, const Verdict &ver
 
 Status status(const Verdict &verdict) { return verdict.finding == Finding::Clean ? Clean : verdict.finding == Finding::Repair ? Repair : Refused; }
 
-// What is printed for a file: its verdict line, its listing, or its name and its listing.
+// What is printed for a sheet: its verdict line, its listing, or its name and its listing.
 enum class Print { Line, Listing, Named };
 
-Status judged(const std::string &path, How how, Print print) {
-    const Sheet sheet = {files::read(path), how.mode, how.way};
+Status judged(const std::string &name, const Sheet &sheet, Print print) {
     if (print == Print::Line) {
         const Verdict found = verdict(sheet);
-        put(line(path, sheet, found));
+        put(line(name, sheet, found));
         return status(found);
     }
     const std::string text = listing(sheet);
-    put((print == Print::Named ? names::shown(path) + ":\n" : "") + text);
+    put((print == Print::Named ? names::shown(name) + ":\n" : "") + text);
     const Verdict found = told(text);
-    if (found.finding == Finding::Refused) say(line(path, sheet, found));
+    if (found.finding == Finding::Refused) say(line(name, sheet, found));
     return status(found);
 }
 
-Status check(const std::string &path, How how, Print print) {
+Status unread(const std::string &name, const std::string &why, Print print) {
+    const std::string text = names::shown(name) + ": could not be read: " + why + '\n';
+    print == Print::Line ? put(text) : say(text);
+    return Unreadable;
+}
+
+// The sheets of a GeoPackage, each by its name.
+int judged_rows(const std::string &path, How how, const geopackage::Chosen &chosen, Print print) {
+    const Print named = print == Print::Line ? Print::Line : Print::Named;
+    int worst = Clean;
+    const auto row = [&](const std::string &name, sheets::Bytes blob) {
+        worst = std::max<int>(worst, judged(name, {std::move(blob), of_blobs(how.mode), how.way}, named));
+    };
+    const auto none = [&](const std::string &name, const std::string &why) { worst = std::max<int>(worst, unread(name, why, print)); };
+    geopackage::each_row(path, chosen, {row, none});
+    return worst;
+}
+
+int check(const std::string &path, How how, const geopackage::Chosen &chosen, Print print) {
     try {
-        return judged(path, how, print);
+        if (geopackage::is_name(path)) return judged_rows(path, how, chosen, print);
+        return judged(path, {files::read(path), how.mode, how.way}, print);
     } catch (const files::Unread &reason) {
-        const std::string unread = names::shown(path) + ": could not be read: " + reason.what() + '\n';
-        print == Print::Line ? put(unread) : say(unread);
-        return Unreadable;
+        return unread(path, reason.what(), print);
     }
 }
 
 // Checks the files in their order.
-int check_all(std::vector<std::string> paths, How how, bool batch) {
+int check_all(std::vector<std::string> paths, How how, const geopackage::Chosen &chosen, bool batch) {
     if (paths.empty()) paths.push_back("-");
     if (std::count(paths.begin(), paths.end(), "-") > 1) {
         say("checker: standard input can be named only once\n");
@@ -133,14 +159,8 @@ int check_all(std::vector<std::string> paths, How how, bool batch) {
     }
     const Print print = batch ? Print::Line : paths.size() == 1 ? Print::Listing : Print::Named;
     int worst = Clean;
-    for (const std::string &path : paths) worst = std::max<int>(worst, check(path, how, print));
+    for (const std::string &path : paths) worst = std::max(worst, check(path, how, chosen, print));
     return worst;
-}
-
-// How sheets are read of which this is said.
-Mode mode_of(bool older, bool blob) {
-    if (blob) return older ? Mode::OlderBlob : Mode::Blob;
-    return older ? Mode::Older : Mode::Present;
 }
 
 // Does what the words of the command say.
@@ -148,7 +168,7 @@ int run(const std::vector<std::string> &words) {
     try {
         const options::Asked asked = options::asked_by(words);
         const auto way = asked.longest ? sheets::Way::Longest : sheets::Way::Priority;
-        return check_all(asked.paths, {mode_of(asked.older, asked.blob), way}, asked.batch);
+        return check_all(asked.paths, {mode_of(asked.older, asked.blob), way}, asked.chosen, asked.batch);
     } catch (const options::Text &asked) {
         put(asked.text);
         return Clean;

@@ -7,19 +7,23 @@
 #include <CLI/CLI.hpp>
 
 #include <algorithm>
+#include <charconv>
 
 namespace options {
 
 namespace {
 
 const char help[] =
-    "usage: checker [--batch] [--older] [--blob] [--longest] [FILE..]\n"
+    "usage: checker [--batch] [--older] [--blob] [--longest] [--table NAME] [--column NAME] [--where-id N] [FILE..]\n"
     "Prints the listing of each sheet file, with its name above where there are several, or of standard input where no file is named.\n"
     "The verdict line of a sheet that is refused or could not be read goes to standard error.\n"
+    "A file whose name ends in .gpkg is a GeoPackage: the blob in each row of its geometry columns is a sheet, FILE/TABLE/ID.\n"
     "  --batch      the verdict lines alone: FILE: clean, FILE: repair, FILE: refused CODE ITEM: WHY, or FILE: could not be read: WHY\n"
     "  --older      the sheets are of the older edition: rings that run the wrong way are turned\n"
     "  --blob       each file is a geometry blob of a GeoPackage table, with a sheet in it\n"
     "  --longest    gaps go to the polygon that they share the longest boundary with, and not by priority; verdicts are the same\n"
+    "  --table NAME, --column NAME, --where-id N\n"
+    "               of GeoPackages only the rows of this table, of this geometry column, with this id\n"
     "  -h, --help   this text\n"
     "  --version    the version\n"
     "  --           every word behind it is a file\n"
@@ -39,6 +43,31 @@ std::vector<std::string> files_in(std::vector<std::string> words) {
     }
     if (mark != words.end()) words.erase(mark);
     return words;
+}
+
+// Does a text begin with an option that takes a value, and go on with '=' or, as CLI11 says that it has none, with ':'?
+bool is_name(const std::string &text) {
+    const std::string word = text.substr(0, text.find_first_of("=:"));
+    return word.size() < text.size() && (word == "--table" || word == "--column" || word == "--where-id");
+}
+
+Misled without_value(const std::string &option) { return Misled("the option " + option + " takes a value: see checker --help"); }
+
+// Adds an option whose value is the next word, whatever it is, or stands behind '='; the last counts.
+void add_name(CLI::App &app, const std::string &option, std::optional<std::string> &name) {
+    const auto named = [&name](const CLI::results_t &values) {
+        name = values.back();
+        return true;
+    };
+    app.add_option(option, named)->expected(1)->take_last();
+}
+
+// The whole number that a text is; none where it is none of 64 bits.
+std::optional<std::int64_t> number_of(const std::string &text) {
+    std::int64_t number = 0;
+    const auto [end, failed] = std::from_chars(text.data(), text.data() + text.size(), number);
+    if (failed != std::errc() || end != text.data() + text.size()) return {};
+    return number;
 }
 
 // Adds options that ask for a text.
@@ -63,18 +92,28 @@ Asked asked_by(const std::vector<std::string> &words) {
     app.add_flag("--older", asked.older);
     app.add_flag("--blob", asked.blob);
     app.add_flag("--longest", asked.longest);
+    std::optional<std::string> id;
+    add_name(app, "--table", asked.chosen.table);
+    add_name(app, "--column", asked.chosen.column);
+    add_name(app, "--where-id", id);
     add_text(app, "-h,--help", help);
     add_text(app, "--version", version);
+    const auto mark = std::find(words.begin(), words.end(), "--");
+    const auto empty = std::find_if(words.begin(), mark, [](const std::string &word) { return is_name(word) && word.back() == '='; });
+    if (empty != mark) throw without_value(empty->substr(0, empty->size() - 1));
     try {
         app.parse(std::vector<std::string>(words.rbegin(), words.rend()));
-    } catch (const CLI::ArgumentMismatch &) {
+    } catch (const CLI::ArgumentMismatch &mismatch) {
         files_in(app.remaining());
-        const auto has_value = [](const std::string &word) { return word[0] == '-' && word.find('=') != std::string::npos; };
+        const std::string why = mismatch.what();
+        if (is_name(why)) throw without_value(why.substr(0, why.find(':')));
+        const auto has_value = [](const std::string &word) { return word[0] == '-' && word.find('=') != std::string::npos && !is_name(word); };
         const auto with_value = std::find_if(words.begin(), words.end(), has_value);
         if (with_value == words.end()) throw;
         throw Misled("the option " + with_value->substr(0, with_value->find('=')) + " takes no value: see checker --help");
     }
     asked.paths = files_in(app.remaining());
+    if (id && !(asked.chosen.id = number_of(*id))) throw Misled("the option --where-id takes a whole number: see checker --help");
     return asked;
 }
 

@@ -1,6 +1,8 @@
 // What the words of the checker's command ask for.
 #pragma once
 
+#include "geopackage.hpp"
+
 #include <stdexcept>
 #include <string>
 #include <vector>
@@ -9,6 +11,7 @@ namespace options {
 
 struct Asked {
     bool batch = false, older = false, blob = false, longest = false;
+    geopackage::Chosen chosen = {};
     std::vector<std::string> paths = {};
 };
 

@@ -8,6 +8,8 @@ use std::path::{Path, PathBuf};
 
 use sheets::READ_CAP;
 
+use crate::geopackage;
+
 /// Linux's number for opening without waiting: a pipe that nobody writes to is open at once.
 const O_NONBLOCK: i32 = 0o4000;
 
@@ -77,28 +79,28 @@ pub struct Look {
 }
 
 impl Look {
-    /// Does the name end as a sheet file's or a blob file's does?
+    /// Does the name end as a sheet file's or a blob file's does, or as a GeoPackage's?
     fn is_name(self, path: &Path) -> bool {
         let end = if self.blobs { b".gpb" } else { b".wkb" };
         let name = path.as_os_str().as_bytes();
-        name.len() >= 4 && name[name.len() - 4..].eq_ignore_ascii_case(end)
+        geopackage::is_name(path.as_os_str()) || name.len() >= 4 && name[name.len() - 4..].eq_ignore_ascii_case(end)
     }
 
     /// Why a file is passed over whose name ends otherwise.
     fn other_name(self) -> &'static str {
         if self.blobs {
-            "its name doesn't end in .gpb"
+            "its name doesn't end in .gpb or .gpkg"
         } else {
-            "its name doesn't end in .wkb"
+            "its name doesn't end in .wkb or .gpkg"
         }
     }
 
     /// Why a folder without such files could not be read.
     fn nothing(self) -> &'static str {
         if self.blobs {
-            "there is no blob in it, no file whose name ends in .gpb"
+            "there is no blob in it, no file whose name ends in .gpb or .gpkg"
         } else {
-            "there is no sheet in it, no file whose name ends in .wkb"
+            "there is no sheet in it, no file whose name ends in .wkb or .gpkg"
         }
     }
 }

@@ -1,13 +1,32 @@
-//! The lines that the gate prints: a verdict for each file, and a summary, as text or as JSON.
+//! The lines that the gate prints: a verdict for each sheet, and a summary, as text or as JSON.
 use std::ffi::OsStr;
 use std::os::unix::ffi::OsStrExt;
 
 use serde_json::{json, Value};
 use sheets::{Mode, Refusal, Verdict};
 
+use crate::geopackage::Named;
 use crate::names::shown;
 
-/// What became of a file. A refusal has the position of the field at fault where reading gives it.
+/// A sheet's name: its file, and in a GeoPackage its row.
+pub struct Name<'a> {
+    pub file: &'a OsStr,
+    pub row: Option<Named>,
+}
+
+impl Name<'_> {
+    /// The parts of the name as they are printed, each with what it is.
+    fn parts(&self) -> Vec<(&'static str, String)> {
+        let mut parts = vec![("file", shown(self.file.as_bytes()))];
+        if let Some(row) = &self.row {
+            parts.push(("table", shown(&row.table)));
+            parts.extend(row.id.as_ref().map(|id| ("id", shown(id))));
+        }
+        parts
+    }
+}
+
+/// What became of a sheet. A refusal has the position of the field at fault where reading gives it.
 pub enum Outcome {
     Clean,
     Repair,
@@ -35,12 +54,13 @@ impl Outcome {
         }
     }
 
-    /// The verdict line of the file with this name.
-    pub fn line(&self, name: &OsStr, json: bool) -> String {
-        let name = shown(name.as_bytes());
+    /// The verdict line of the sheet with this name.
+    pub fn line(&self, name: &Name, json: bool) -> String {
+        let parts = name.parts();
         if json {
-            return format!("{}\n", self.object(&name));
+            return format!("{}\n", self.object(parts));
         }
+        let name = parts.into_iter().map(|(_, part)| part).collect::<Vec<_>>().join("/");
         match self {
             Outcome::Clean => format!("{name}: clean\n"),
             Outcome::Repair => format!("{name}: repair\n"),
@@ -52,21 +72,27 @@ impl Outcome {
         }
     }
 
-    /// The JSON object of the file with this name.
-    fn object(&self, name: &str) -> Value {
+    /// The JSON object of the sheet whose name has these parts.
+    fn object(&self, name: Vec<(&str, String)>) -> Value {
+        let mut members = Value::Object(name.into_iter().map(|(what, part)| (what.to_string(), json!(part))).collect());
         match self {
-            Outcome::Clean => json!({"file": name, "verdict": "clean"}),
-            Outcome::Repair => json!({"file": name, "verdict": "repair"}),
+            Outcome::Clean => members["verdict"] = json!("clean"),
+            Outcome::Repair => members["verdict"] = json!("repair"),
             Outcome::Refused(refusal, position) => {
-                let mut members = json!({"file": name, "verdict": "refused", "code": refusal.code, "item": refusal.item});
+                members["verdict"] = json!("refused");
+                members["code"] = json!(refusal.code);
+                members["item"] = json!(refusal.item);
                 if let Some(byte) = *position {
                     members["position"] = json!(byte);
                 }
                 members["reason"] = json!(refusal.sentence());
-                members
             }
-            Outcome::Unread(why) => json!({"file": name, "verdict": "unreadable", "reason": why}),
+            Outcome::Unread(why) => {
+                members["verdict"] = json!("unreadable");
+                members["reason"] = json!(why);
+            }
         }
+        members
     }
 }
 

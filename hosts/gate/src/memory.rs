@@ -27,15 +27,20 @@ struct OrEnd;
 #[global_allocator]
 static MEMORY: OrEnd = OrEnd;
 
-/// Memory that was given. To say that there is none takes none.
-fn given(memory: *mut u8) -> *mut u8 {
+/// Ends the program where there is no memory. To say so takes none.
+pub fn end() -> ! {
     const MESSAGE: &[u8] = b"gate: out of memory\n";
+    // SAFETY: the bytes are those of the message, and the program ends.
+    unsafe {
+        write(2, MESSAGE.as_ptr(), MESSAGE.len());
+        _exit(3)
+    }
+}
+
+/// Memory that was given.
+fn given(memory: *mut u8) -> *mut u8 {
     if memory.is_null() {
-        // SAFETY: the bytes are those of the message, and the program ends.
-        unsafe {
-            write(2, MESSAGE.as_ptr(), MESSAGE.len());
-            _exit(3)
-        }
+        end();
     }
     memory
 }
