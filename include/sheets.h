@@ -6,11 +6,11 @@
    description says, for every input.
 
    How every entry works
-     - It takes the bytes of its input and bytes lent for the answer: a pointer and a length each. A length of 0 may come with any pointer, null too.
+     - It takes the bytes of its input and bytes lent for the answer (sheet_at alone has none): a pointer and a length each. A length of 0 may come with any pointer, null too.
        The input and the lent bytes must not overlap.
      - It answers one number, item * 256 + code: SHEETS_CODE(answer), SHEETS_ITEM(answer).
      - Code 0 is success: the answer's bytes stand at the front of the lent bytes, and the lent bytes past them keep their values. The item says how
-       long the answer is (in bytes, triangles, polygons or sides, as said below).
+       long the answer is (in bytes, triangles, polygons or sides, as said below), of sheet_at whose the point is.
      - Any other code is a refusal: no lent byte has changed.
      - It always returns, reads only the input, writes only lent bytes, and allocates nothing. It keeps no state, so any number of threads may call any
        entries at once. A thread that calls needs 640 KiB of free stack, SHEETS_STACK.
@@ -146,6 +146,12 @@ uint64_t sheet_listing_by(const uint8_t *sheet, size_t sheet_len, uint32_t mode,
    of the table as its envelope, whether or not the table keeps the rules; the sheet is as sheet_write makes it. Reading it in SHEETS_MODE_BLOB gives the same
    numbers back. Item: bytes. Refusals: 42, 40. */
 uint64_t sheet_write_blob(const uint8_t *numbers, size_t numbers_len, uint8_t *out, size_t out_len);
+
+/* What is at the point (x, y), in millimetres, any two numbers: the number of the polygon that owns it after repair in the way, as the item. A point belongs to a
+   triangle if, for each side, it is strictly to the left, or lies on the line of a side that runs downward, or on that of a side that runs level to the right. Every
+   point from the frame's least x and y up to but not including the greatest belongs to exactly one triangle, and any other to none, which is 55. No bytes are lent.
+   Refusals: 57, 1 to 8, 10, 11, 12, 52, 20/21, 54, 30, 55. */
+uint64_t sheet_at(const uint8_t *sheet, size_t sheet_len, uint32_t mode, uint32_t way, int32_t x, int32_t y);
 
 #ifdef __cplusplus
 }

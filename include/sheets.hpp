@@ -296,6 +296,17 @@ inline std::string listing_by(const std::uint8_t *sheet, std::size_t size, Mode 
 
 inline Verdict verdict_by(const std::uint8_t *sheet, std::size_t size, Mode mode) { return inside::verdict(owner_sets_by(sheet, size, mode)); }
 
+// What is at the point (x, y): the number of the polygon that owns it after repair, in a mode and a way, and in the present one by priority. 55 for a point that
+// belongs to no triangle: one off the frame, whose greatest x and y are off it.
+inline Answer<std::uint32_t> at_by(const std::uint8_t *sheet, std::size_t size, Mode mode, Way way, std::int32_t x, std::int32_t y) {
+    const Answer<std::uint64_t> answer = inside::unpacked(sheet_at(inside::given(sheet, size), size, inside::number(mode), inside::number(way), x, y));
+    return {answer.refusal, static_cast<std::uint32_t>(answer.value)};
+}
+
+inline Answer<std::uint32_t> at(const std::uint8_t *sheet, std::size_t size, std::int32_t x, std::int32_t y) {
+    return at_by(sheet, size, Mode::Present, Way::Priority, x, y);
+}
+
 }  // namespace sheets
 
 #endif

@@ -21,6 +21,13 @@ def answers(paths, mode=0, way=0):
     return [(verdict, listing) for verdict, *listing in printed]
 
 
+def owners_at(paths, point, mode=0, way=0):
+    """For each file who owns the point after repair, 'polygon NUMBER', or its refusal as a verdict has it."""
+    printed = run("owners_at", str(mode), str(way), *map(str, point), *paths).split("\n")[:-1]
+    assert len(printed) == len(paths)
+    return printed
+
+
 def cases(folder):
     """Writes the sheets and the blobs that were made by hand to the folder, as .wkb and .gpb, by names that say what each tries."""
     run("cases", folder)

@@ -221,6 +221,44 @@ def by_the_longest_boundary(programs, what, folder, every):
     return outcomes
 
 
+# Points that are asked for: on the strip sheet's ground and on many a generated sheet's, behind every frame, and on few.
+POINTS = ((0, 0), (3, 2), (-1, 1), (10_000_000, -2_147_483_648), (2_147_483_647, 5), (-1_000_000, 500_000))
+
+
+def at_points(programs, what, folder):
+    """The owners at points that the checker prints are those of the independent program, on sheets and blobs, in both ways."""
+    outcomes, seen = [], set()
+    for mode, way, end in ((0, 0, ENDS[0]), (1, 1, ENDS[0]), (2, 1, ENDS[1]), (3, 0, ENDS[1])):
+        paths = files_of(folder, end)
+        for point in POINTS:
+            told_of = independent.owners_at(paths, point, mode, way)
+            seen |= {said.split()[0] + said.split()[1] * (said.split()[0] == "refused") for said in told_of}
+            lines = [line(path, told(said) if said.startswith("refused") else said) for path, said in zip(paths, told_of)]
+            status = 2 if any(said.startswith("refused") for said in told_of) else 0
+            words = MODES[mode] + WAYS[way] + ["--at", "%d,%d" % point]
+            outcomes.append(equal("%s, mode %d, way %d, at %d,%d" % (what, mode, way, *point), run(programs.checker, *words, *paths), (status, lines, [])))
+    return outcomes + [equal(what + ", owners and points off the frame", {"polygon", "refused55"} <= seen, True)]
+
+
+def asked_points(programs):
+    """How a point is written, and what is none: wherever the word stands, from standard input, for several files, with a file that can't be read."""
+    sheet = os.path.join(EXAMPLES, "strip.wkb")
+    given = contents(sheet)
+    off = line(sheet, refused(55, 0))
+    outcomes = []
+    for words in (["--at", "3,2", sheet], [sheet, "--at", "3,2"], ["--at=3,2", "--", sheet], ["--at", "9,9", "--at", "3,2", "--batch", sheet], ["--longest", "--at", "003,2", sheet]):
+        outcomes.append(equal("a point", run(programs.checker, *words), (0, [line(sheet, "polygon 1")], [])))
+    for point in ("-1,0", "8,0", "0,4", "-2147483648,2147483647", "0,-0004"):
+        outcomes.append(equal("a point off the frame", run(programs.checker, "--at", point, sheet), (2, [off], [])))
+    outcomes.append(equal("a point of standard input", run(programs.checker, "--at", "7,3", given=given), (0, [line("-", "polygon 2")], [])))
+    missing = sheet + ".missing"
+    outcomes.append(equal("a point of several", run(programs.checker, "--at", "0,0", sheet, missing), (3, [line(sheet, "polygon 1"), unread(missing, 2)], [])))
+    for text in ("", ",", "1", "1,", ",1", "1,2,3", "1;2", "1, 2", "+1,2", "1.0,2", "0x1,2", "2147483648,0", "0,-2147483649", "99999999999999999999,0", "a,b", "--1,2", "-,2"):
+        why = "checker: there is no point %s: --at takes X,Y, two whole numbers of 32 bits" % text
+        outcomes.append(equal("no point", run(programs.checker, "--at", text, sheet), (3, [], [why])))
+    return outcomes + [equal("no point behind it", run(programs.checker, sheet, "--at"), (3, [], ["checker: the option --at takes a value: see checker --help"]))]
+
+
 def contents(path):
     with open(path, "rb") as f:
         return f.read()
@@ -230,7 +268,7 @@ def generated(programs, folder):
     """The folder's sheets and blobs, named one by one and as a folder; every kind of verdict in each mode, sheets that are refused in one mode alone, every
     refusal of blobs, and the largest are among them."""
     every, outcomes = in_all_modes(programs, "generated sheets", folder)
-    outcomes += by_the_longest_boundary(programs, "generated sheets", folder, every)
+    outcomes += by_the_longest_boundary(programs, "generated sheets", folder, every) + at_points(programs, "generated sheets", folder)
     for mode, (words, lines) in enumerate(zip(MODES, every)):
         end, other = ENDS if mode < 2 else ENDS[::-1]
         passed = files_of(folder, other)
@@ -327,6 +365,8 @@ def longest_boundary(programs, cases):
     for words in (["--longest", path], [path, "--longest"], ["--longest", "--longest", "--", path]):
         outcomes.append(equal("by the longest boundary", run(programs.checker, *words), (1, head + ["after 1 64", "after 2 8"], [])))
         outcomes += programs.same("its verdict", words, [line(path, "repair")])
+    for words, owner in ((WAYS[0], 2), (WAYS[1], 1)):
+        outcomes.append(equal("a point of the gap", run(programs.checker, *words, "--at", "3,3", path), (0, [line(path, "polygon %d" % owner)], [])))
     return outcomes
 
 
@@ -678,7 +718,7 @@ def main(checker, gate, folder):
     outcomes += generated(programs, folder) + examples(programs)
     with tempfile.TemporaryDirectory() as cases:
         independent.cases(cases)
-        outcomes += sentences(programs, cases) + older_edition(programs, cases) + longest_boundary(programs, cases) + blobs(programs, cases) + long_files(programs, cases)
+        outcomes += sentences(programs, cases) + older_edition(programs, cases) + longest_boundary(programs, cases) + asked_points(programs) + blobs(programs, cases) + long_files(programs, cases)
     outcomes += any_names(programs) + irregular(programs) + folders(programs) + options(programs)
     outcomes += unwritable(programs, stored) + as_they_come(programs, stored, lines) + progress_lines(programs.gate, ["-", stored[0]], ([b"1 of 2 sheets checked"], [b"2 of 2 sheets checked"]))
     if len(checker.split()) == 1:  # an emulator needs memory of its own
@@ -691,5 +731,6 @@ if __name__ == "__main__":
     if sys.argv[1:2] == ["--sheets"]:
         *commands, where = sys.argv[2:]
         every, outcomes = in_all_modes(Programs(*commands), "sheets", where)
+        outcomes += at_points(Programs(*commands), "sheets", where)
         sys.exit(tally(outcomes + by_the_longest_boundary(Programs(*commands), "sheets", where, every)))
     sys.exit(main(*sys.argv[1:]))

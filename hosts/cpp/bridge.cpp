@@ -1,10 +1,10 @@
 // Calls the entries, or the functions of sheets.hpp, as the frames of standard input say, for a program that has the library on the other side of a pipe.
 // A frame: u8 function (0 numbers, 1 write, 2 owner sets, 3 owners, 4 boundary, 5 listing, 6 verdict, 7 position; 8 numbers, 9 owner sets, 10 owners, 11 boundary,
-// 12 listing by what is asked; 13 write blob, 14 areas), u32 LE mode, u32 LE way, u32 LE polygon, u32 LE input length, u32 LE room, input. The answer: u64 LE packed answer,
+// 12 listing by what is asked; 13 write blob, 14 areas, 15 at a point, whose x and y, i32 LE, stand before the input and count with it), u32 LE mode, u32 LE way, u32 LE polygon, u32 LE input length, u32 LE room, input. The answer: u64 LE packed answer,
 // then the lent bytes after the entry's call; lent byte i is (i * 131 + 17) % 256 before it. No bytes, of the input or lent, come with a null pointer. Bytes before
 // and behind the lent ones are watched: where a call changes one, or one of its input, the program ends with status 2.
 // With a room of 2^32 - 1 a function of sheets.hpp is called. The answer: u64 LE packed answer, u32 LE length, its value in so many bytes, none for a refusal; a
-// verdict is one byte, 0 clean or 1 repair, and in mode 0 a verdict, a position and areas are those without a mode. With --stack N the calls are made on a thread with N KiB
+// verdict is one byte, 0 clean or 1 repair, and in mode 0 a verdict, a position and areas are those without a mode, in mode 0 and way 0 a point's owner. With --stack N the calls are made on a thread with N KiB
 // of stack.
 #include <sheets.hpp>
 
@@ -32,9 +32,19 @@ std::uint32_t number(const std::uint8_t *at) { return at[0] | at[1] << 8 | at[2]
 struct Asked {
     unsigned function;
     std::uint32_t mode, way, polygon;
+    std::int32_t x = 0, y = 0;
 };
 
-Asked asked_in(const std::uint8_t *frame) { return {frame[0], number(frame + 1), number(frame + 5), number(frame + 9)}; }
+// The bytes before a frame's input, a point's x and y among them.
+std::size_t before_input(const std::uint8_t *frame) { return frame[0] == 15 ? head + 8 : head; }
+
+Asked asked_in(const std::uint8_t *frame) {
+    Asked asked = {frame[0], number(frame + 1), number(frame + 5), number(frame + 9)};
+    if (before_input(frame) == head) return asked;
+    asked.x = static_cast<std::int32_t>(number(frame + head));
+    asked.y = static_cast<std::int32_t>(number(frame + head + 4));
+    return asked;
+}
 
 std::uint64_t call(const Asked &asked, const std::uint8_t *input, std::size_t size, std::uint8_t *lent, std::size_t room) {
     switch (asked.function) {
@@ -52,6 +62,7 @@ std::uint64_t call(const Asked &asked, const std::uint8_t *input, std::size_t si
         case 12: return sheet_listing_by(input, size, asked.mode, asked.way, lent, room);
         case 13: return sheet_write_blob(input, size, lent, room);
         case 14: return sheet_areas(input, size, asked.mode, lent, room);
+        case 15: return sheet_at(input, size, asked.mode, asked.way, asked.x, asked.y);
     }
     std::exit(3);
 }
@@ -84,9 +95,10 @@ void answer(const std::uint8_t *frame, std::size_t size, std::size_t room, Bytes
     std::memset(lent.data(), watched, guard);
     std::memcpy(lent.data() + guard, fresh().data(), room);
     std::memset(lent.data() + guard + room, watched, guard);
-    before.assign(frame + head, frame + head + size);
-    std::uint64_t packed = call(asked_in(frame), size == 0 ? nullptr : frame + head, size, room == 0 ? nullptr : lent.data() + guard, room);
-    if (!untouched(lent.data()) || !untouched(lent.data() + guard + room) || (size != 0 && std::memcmp(before.data(), frame + head, size) != 0)) {
+    const std::uint8_t *input = frame + before_input(frame);
+    before.assign(input, input + size);
+    std::uint64_t packed = call(asked_in(frame), size == 0 ? nullptr : input, size, room == 0 ? nullptr : lent.data() + guard, room);
+    if (!untouched(lent.data()) || !untouched(lent.data() + guard + room) || (size != 0 && std::memcmp(before.data(), input, size) != 0)) {
         std::fprintf(stderr, "bridge: a byte outside the lent ones was changed\n");
         std::exit(2);
     }
@@ -139,6 +151,9 @@ Value position(const sheets::Position &position) {
     return {{}, bytes.size(), bytes};
 }
 
+// A point's owner is the item, and no value has bytes.
+Value owner(const sheets::Answer<std::uint32_t> &owner) { return {owner.refusal, owner.value}; }
+
 // An answer whose item is the length of its value, or of the value's bytes.
 template <class T>
 Value counted(const sheets::Answer<T> &answer, bool by_bytes) {
@@ -180,13 +195,16 @@ Value wrapped(const Asked &asked, const std::uint8_t *input, std::size_t size) {
         case 12: return listing(sheets::listing_by(input, size, mode, way));
         case 13: return counted(sheets::write_blob(numbers_in(input, size)), true);
         case 14: return counted(present ? sheets::areas(input, size) : sheets::areas_by(input, size, mode), false);
+        case 15:
+            return owner(present && way == sheets::Way::Priority ? sheets::at(input, size, asked.x, asked.y)
+                                                                 : sheets::at_by(input, size, mode, way, asked.x, asked.y));
     }
     std::exit(3);
 }
 
 // Calls the function of one frame, and puts its answer behind the others. An empty input comes with a null pointer.
 void answer_wrapped(const std::uint8_t *frame, std::size_t size, Bytes &answers) {
-    Value value = wrapped(asked_in(frame), size == 0 ? nullptr : frame + head, size);
+    Value value = wrapped(asked_in(frame), size == 0 ? nullptr : frame + before_input(frame), size);
     put_number(answers, packed(value.refusal, value.item), 8);
     put_number(answers, value.bytes.size(), 4);
     answers.insert(answers.end(), value.bytes.begin(), value.bytes.end());
@@ -213,13 +231,14 @@ void *serve(void *) {
         if (n == 0) std::exit(frames.empty() ? 0 : 3);
         std::size_t at = 0;
         while (frames.size() - at >= head) {
-            std::size_t size = number(&frames[at] + 13), room = number(&frames[at] + 17);
-            if (frames.size() - at - head < size) break;
+            const std::size_t given = number(&frames[at] + 13), room = number(&frames[at] + 17);
+            if (frames.size() - at - head < given) break;
+            const std::size_t size = given - (before_input(&frames[at]) - head);
             if (room == own_room)
                 answer_wrapped(&frames[at], size, answers);
             else
                 answer(&frames[at], size, room, answers);
-            at += head + size;
+            at += head + given;
         }
         frames.erase(frames.begin(), frames.begin() + static_cast<std::ptrdiff_t>(at));
         put(answers);

@@ -17,6 +17,7 @@
 #include <cstring>
 #include <exception>
 #include <new>
+#include <optional>
 #include <stdexcept>
 #include <string>
 #include <string_view>
@@ -62,10 +63,11 @@ std::string grouped(std::uint64_t number) {
     return digits;
 }
 
-// How a sheet is read, and how its gaps are filled.
+// How a sheet is read, how its gaps are filled, and the point that is asked for, if one is.
 struct How {
     Mode mode;
     sheets::Way way;
+    std::optional<options::Point> at;
 };
 
 // How sheets are read of which this is said.
@@ -77,11 +79,12 @@ Mode mode_of(bool older, bool blob) {
 // How blobs are read where other files are read so.
 Mode of_blobs(Mode mode) { return mode_of(mode == Mode::Older || mode == Mode::OlderBlob, true); }
 
-// A sheet, and how it is read and its gaps are filled.
+// A sheet, how it is read and its gaps are filled, and the point that is asked for, if one is.
 struct Sheet {
     sheets::Bytes bytes;
     Mode mode;
     sheets::Way way;
+    std::optional<options::Point> at;
 };
 
 Verdict verdict(const Sheet &sheet) { return sheets::verdict_by(sheet.bytes.data(), sheet.bytes.size(), sheet.mode); }
@@ -107,10 +110,19 @@ std::string line(const std::string &path, const Sheet &sheet, const Verdict &ver
 
 Status status(const Verdict &verdict) { return verdict.finding == Finding::Clean ? Clean : verdict.finding == Finding::Repair ? Repair : Refused; }
 
+// Who owns the point of a sheet, behind the name of its file.
+Status at_point(const std::string &name, const Sheet &sheet, options::Point point) {
+    const auto owner = sheets::at_by(sheet.bytes.data(), sheet.bytes.size(), sheet.mode, sheet.way, point.x, point.y);
+    const std::string said = owner ? "polygon " + std::to_string(owner.value) : refused(sheet, owner.refusal);
+    put(names::shown(name) + ": " + said + '\n');
+    return owner ? Clean : Refused;
+}
+
 // What is printed for a sheet: its verdict line, its listing, or its name and its listing.
 enum class Print { Line, Listing, Named };
 
 Status judged(const std::string &name, const Sheet &sheet, Print print) {
+    if (sheet.at) return at_point(name, sheet, *sheet.at);
     if (print == Print::Line) {
         const Verdict found = verdict(sheet);
         put(line(name, sheet, found));
@@ -134,7 +146,7 @@ int judged_rows(const std::string &path, How how, const geopackage::Chosen &chos
     const Print named = print == Print::Line ? Print::Line : Print::Named;
     int worst = Clean;
     const auto row = [&](const std::string &name, sheets::Bytes blob) {
-        worst = std::max<int>(worst, judged(name, {std::move(blob), of_blobs(how.mode), how.way}, named));
+        worst = std::max<int>(worst, judged(name, {std::move(blob), of_blobs(how.mode), how.way, how.at}, named));
     };
     const auto none = [&](const std::string &name, const std::string &why) { worst = std::max<int>(worst, unread(name, why, print)); };
     geopackage::each_row(path, chosen, {row, none});
@@ -144,7 +156,7 @@ int judged_rows(const std::string &path, How how, const geopackage::Chosen &chos
 int check(const std::string &path, How how, const geopackage::Chosen &chosen, Print print) {
     try {
         if (geopackage::is_name(path)) return judged_rows(path, how, chosen, print);
-        return judged(path, {files::read(path), how.mode, how.way}, print);
+        return judged(path, {files::read(path), how.mode, how.way, how.at}, print);
     } catch (const files::Unread &reason) {
         return unread(path, reason.what(), print);
     }
@@ -157,7 +169,7 @@ int check_all(std::vector<std::string> paths, How how, const geopackage::Chosen 
         say("checker: standard input can be named only once\n");
         return Unreadable;
     }
-    const Print print = batch ? Print::Line : paths.size() == 1 ? Print::Listing : Print::Named;
+    const Print print = batch || how.at ? Print::Line : paths.size() == 1 ? Print::Listing : Print::Named;
     int worst = Clean;
     for (const std::string &path : paths) worst = std::max(worst, check(path, how, chosen, print));
     return worst;
@@ -168,7 +180,7 @@ int run(const std::vector<std::string> &words) {
     try {
         const options::Asked asked = options::asked_by(words);
         const auto way = asked.longest ? sheets::Way::Longest : sheets::Way::Priority;
-        return check_all(asked.paths, {mode_of(asked.older, asked.blob), way}, asked.chosen, asked.batch);
+        return check_all(asked.paths, {mode_of(asked.older, asked.blob), way, asked.at}, asked.chosen, asked.batch);
     } catch (const options::Text &asked) {
         put(asked.text);
         return Clean;

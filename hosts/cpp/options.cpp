@@ -8,13 +8,15 @@
 
 #include <algorithm>
 #include <charconv>
+#include <cstdint>
+#include <string>
 
 namespace options {
 
 namespace {
 
 const char help[] =
-    "usage: checker [--batch] [--older] [--blob] [--longest] [--table NAME] [--column NAME] [--where-id N] [FILE..]\n"
+    "usage: checker [--batch] [--older] [--blob] [--longest] [--at X,Y] [--table NAME] [--column NAME] [--where-id N] [FILE..]\n"
     "Prints the listing of each sheet file, with its name above where there are several, or of standard input where no file is named.\n"
     "The verdict line of a sheet that is refused or could not be read goes to standard error.\n"
     "A file whose name ends in .gpkg is a GeoPackage: the blob in each row of its geometry columns is a sheet, FILE/TABLE/ID.\n"
@@ -22,6 +24,7 @@ const char help[] =
     "  --older      the sheets are of the older edition: rings that run the wrong way are turned\n"
     "  --blob       each file is a geometry blob of a GeoPackage table, with a sheet in it\n"
     "  --longest    gaps go to the polygon that they share the longest boundary with, and not by priority; verdicts are the same\n"
+    "  --at X,Y     who owns the point after repair, X and Y in whole millimetres: FILE: polygon NUMBER, or its line as with --batch\n"
     "  --table NAME, --column NAME, --where-id N\n"
     "               of GeoPackages only the rows of this table, of this geometry column, with this id\n"
     "  -h, --help   this text\n"
@@ -29,7 +32,8 @@ const char help[] =
     "  --           every word behind it is a file\n"
     "With the codes 1 to 8 it is refused CODE ITEM at byte N: WHY, where N is the place of the fault in the file, 0 for its first byte.\n"
     "FILE is a regular file, or - for standard input. A file whose name begins with a dash is written ./-name, or behind --.\n"
-    "Exit status: 0 all sheets are clean, 1 one needs repair, 2 one is refused, 3 one could not be read; the highest counts.\n";
+    "Exit status: 0 all sheets are clean, 1 one needs repair, 2 one is refused, 3 one could not be read; the highest counts.\n"
+    "With --at it is 0 where every sheet has an owner there.\n";
 
 const char version[] = "checker " SHEETS_VERSION "\n";
 
@@ -48,7 +52,7 @@ std::vector<std::string> files_in(std::vector<std::string> words) {
 // Does a text begin with an option that takes a value, and go on with '=' or, as CLI11 says that it has none, with ':'?
 bool is_name(const std::string &text) {
     const std::string word = text.substr(0, text.find_first_of("=:"));
-    return word.size() < text.size() && (word == "--table" || word == "--column" || word == "--where-id");
+    return word.size() < text.size() && (word == "--table" || word == "--column" || word == "--where-id" || word == "--at");
 }
 
 Misled without_value(const std::string &option) { return Misled("the option " + option + " takes a value: see checker --help"); }
@@ -68,6 +72,15 @@ std::optional<std::int64_t> number_of(const std::string &text) {
     const auto [end, failed] = std::from_chars(text.data(), text.data() + text.size(), number);
     if (failed != std::errc() || end != text.data() + text.size()) return {};
     return number;
+}
+
+// The point that X,Y names: two whole numbers of 32 bits.
+Point point_of(const std::string &text) {
+    const std::size_t comma = std::min(text.find(','), text.size());
+    const auto x = number_of(text.substr(0, comma)), y = number_of(text.substr(std::min(comma + 1, text.size())));
+    const auto fits = [](const std::optional<std::int64_t> &number) { return number && *number >= INT32_MIN && *number <= INT32_MAX; };
+    if (!fits(x) || !fits(y)) throw Misled("there is no point " + names::shown(text) + ": --at takes X,Y, two whole numbers of 32 bits");
+    return {static_cast<std::int32_t>(*x), static_cast<std::int32_t>(*y)};
 }
 
 // Adds options that ask for a text.
@@ -92,10 +105,11 @@ Asked asked_by(const std::vector<std::string> &words) {
     app.add_flag("--older", asked.older);
     app.add_flag("--blob", asked.blob);
     app.add_flag("--longest", asked.longest);
-    std::optional<std::string> id;
+    std::optional<std::string> id, at;
     add_name(app, "--table", asked.chosen.table);
     add_name(app, "--column", asked.chosen.column);
     add_name(app, "--where-id", id);
+    add_name(app, "--at", at);
     add_text(app, "-h,--help", help);
     add_text(app, "--version", version);
     const auto mark = std::find(words.begin(), words.end(), "--");
@@ -114,6 +128,7 @@ Asked asked_by(const std::vector<std::string> &words) {
     }
     asked.paths = files_in(app.remaining());
     if (id && !(asked.chosen.id = number_of(*id))) throw Misled("the option --where-id takes a whole number: see checker --help");
+    if (at) asked.at = point_of(*at);
     return asked;
 }
 

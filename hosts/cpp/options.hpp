@@ -3,15 +3,23 @@
 
 #include "geopackage.hpp"
 
+#include <cstdint>
+#include <optional>
 #include <stdexcept>
 #include <string>
 #include <vector>
 
 namespace options {
 
+// A point, in millimetres.
+struct Point {
+    std::int32_t x, y;
+};
+
 struct Asked {
     bool batch = false, older = false, blob = false, longest = false;
     geopackage::Chosen chosen = {};
+    std::optional<Point> at = {};
     std::vector<std::string> paths = {};
 };
 

@@ -5,6 +5,7 @@ pub mod Writing
 pub mod Answers
 pub mod Positions
 pub mod Areas
+pub mod Points
 pub mod Older
 pub mod Blobs
 pub mod Room

@@ -16,10 +16,11 @@ use Rattle.sheet.proofs.Refusals.{Lawful}
 use Rattle.sheet_form.specs.Numbers.{members}
 use Rattle.sheet_modes.specs.Modes.{readBy}
 use Rattle.demands.specs.Refusals.{Row, alone, rows, inRow, Listed}
-use Rattle.demands.specs.Entries.{Entry, numbers, areas, position, write, writeBlob, ownerSets, owners, boundary, listing, outcomeOf}
+use Rattle.demands.specs.Entries.{Entry, numbers, areas, position, write, writeBlob, ownerSets, owners, boundary, listing, ownerAt, outcomeOf}
 use Rattle.demands.specs.Answers.{Refused, unread, breaks-A, breaks-B, breaks-C, unframed, not-carried, no-ground}
 use Rattle.demands.proofs.Stages.{read-lawful, no-higher, read-limits}
 use Rattle.demands.proofs.Answers.{numbers-refuses, areas-refuses, position-refuses-nothing, write-refuses, write-blob-refuses, owner-sets-refuses, owners-refuses, boundary-refuses, listing-refuses-nothing}
+use Rattle.demands.proofs.Points.{at-refuses}
 
 -- ---- the table
 any-at : {A : Type 0} (p : A → Bool) (d : A) (l : List A) (i : ℕ) → i < length l → T (p (getD l i d)) → T (any p l)
@@ -98,7 +99,7 @@ alone-listed i h e {code} {item} c z = subst (λ n. Listed n item) (sym c) (in-r
 module _ (mode : ℕ) (s : List ℕ) (all : All (λ b. b < 256) s) where
   unread-listed : (code item : ℕ) → readBy members mode s ≡ refused code item → Listed code item
   unread-listed code item e =
-      ⊎-elim (λ (c, i). alone-listed 21 (omega arith) refl c i)
+      ⊎-elim (λ (c, i). alone-listed 22 (omega arith) refl c i)
       (⊎-elim (λ (c, i). ⊎-elim (λ c. alone-listed 17 (omega arith) refl c i) (λ c. alone-listed 18 (omega arith) refl c i) c) (lawful-listed code item))
       (read-lawful mode s code item e)
 
@@ -127,6 +128,10 @@ module _ (s : List ℕ) (all : All (λ b. b < 256) s) where
       (⊎-elim (λ h. alone-listed 15 (omega arith) refl (h .0) (h .1)) (⊎-elim (λ h. alone-listed 20 (omega arith) refl (h .0) (h .1)) (λ h. alone-listed 13 (omega arith) refl (h .0) (h .1))))
       (boundary-refuses mode s all way k code item .0 q)
   outcome-listed (listing mode way) code item q = absurd (listing-refuses-nothing mode s all way code item q)
+  outcome-listed (ownerAt mode way x y) code item q =
+      ⊎-elim (refused-listed mode s all)
+      (⊎-elim (λ h. alone-listed 20 (omega arith) refl (h .0) (h .1)) (⊎-elim (λ h. alone-listed 13 (omega arith) refl (h .0) (h .1)) (λ h. alone-listed 21 (omega arith) refl (h .0) (h .1))))
+      (at-refuses mode s all way x y code item .0 q)
 
 -- The code of an answer that is too long.
 pub short-listed : Listed 40 0

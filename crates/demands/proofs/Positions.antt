@@ -42,9 +42,10 @@ use Rattle.outcomes.specs.Entries.{firstOf, formOf, withRoom, telling, sheetPos
 use Rattle.outcomes.proofs.Position.{position-refused, nowhere}
 use Rattle.demands.specs.Answers.{OtherEnvelope, Refused, unread, breaks-A, breaks-B, breaks-C, unframed, not-carried, no-ground}
 use Rattle.demands.specs.Positions.{NextAfter, Enough, OfReading, ReadsSheet}
-use Rattle.demands.specs.Entries.{Entry, numbers, areas, position, write, writeBlob, ownerSets, owners, boundary, listing, outcomeOf}
+use Rattle.demands.specs.Entries.{Entry, numbers, areas, position, write, writeBlob, ownerSets, owners, boundary, listing, ownerAt, outcomeOf}
 use Rattle.demands.proofs.Stages.{not-between, not-above, read-opened}
 use Rattle.demands.proofs.Answers.{numbers-answers, numbers-refuses, areas-refuses, owner-sets-refuses, owners-refuses, boundary-refuses}
+use Rattle.demands.proofs.Points.{at-refuses}
 
 -- ---- a step
 -- A step tells the place that it began at,
@@ -161,7 +162,7 @@ module _ (mode : ℕ) (s : List ℕ) (all : All (λ b. b < 256) s) (code item : 
   by-reading (not-carried n p r w f) l = absurd (not-between l (omega arith) (omega arith))
   by-reading (no-ground n p r w f) l = absurd (not-between l (omega arith) (omega arith))
 
-  -- 30, 41, 52 and 54 are no codes of reading.
+  -- 30, 41, 52, 54 and 55 are no codes of reading.
   low-other : (c : ℕ) → 9 ≤ c → c ≤ 49 → {X : Type 0} → code ≡ c → X
   low-other c a b e = absurd (not-between of (omega arith) (omega arith))
 
@@ -193,6 +194,11 @@ module _ (mode : ℕ) (s : List ℕ) (all : All (λ b. b < 256) s) (code item : 
     λ e. boundary-refuses mode s all way k code item .1 (inl (unread e)),
   )
   same-in-all (listing m way) r = absurd r
+  same-in-all (ownerAt m way x y) r = subst (λ k. (outcomeOf (ownerAt k way x y) s ≡ refused code item) ↔ (readBy members mode s ≡ refused code item)) (sym r) (
+    λ q. by-reading (⊎-elim (λ f. f)
+        (⊎-elim (λ h. high-other 54 (omega arith) (omega arith) (h .0)) (⊎-elim (λ h. low-other 30 (omega arith) (omega arith) (h .0)) (λ h. high-other 55 (omega arith) (omega arith) (h .0)))) (at-refuses mode s all way x y code item .0 q)) of,
+    λ e. at-refuses mode s all way x y code item .1 (inl (unread e)),
+  )
 
 -- And in a known mode, behind what stands around the sheet, reading is refused as document 01's is.
 pub same-in-modes : (mode : ℕ) (s : List ℕ) (m : Mode) (o : Option Opened) → modeOf mode ≡ value m → around (m .form) s ≡ value o

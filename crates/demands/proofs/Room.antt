@@ -41,7 +41,7 @@ use Rattle.sheet_written.proofs.Trip.{written-bytes, round-trip, form-small}
 use Rattle.outcomes.specs.Entries.{firstOf, formOf, i64, ownedSides}
 use Rattle.outcomes.proofs.Sized.{line-most, listing-most, sides-most}
 use Rattle.demands.specs.Answers.{Refused, unread, breaks-A, breaks-B, breaks-C, unframed, not-carried, no-ground}
-use Rattle.demands.specs.Entries.{Entry, numbers, areas, position, write, writeBlob, ownerSets, owners, boundary, listing, outcomeOf, roomOf}
+use Rattle.demands.specs.Entries.{Entry, numbers, areas, position, write, writeBlob, ownerSets, owners, boundary, listing, ownerAt, outcomeOf, roomOf}
 use Rattle.demands.proofs.Stages.{of-reading, not-between, read-limits}
 use Rattle.demands.proofs.Envelopes.{no-envelope}
 use Rattle.demands.proofs.Sets.{with-owners, owners-each}
@@ -49,6 +49,7 @@ use Rattle.demands.proofs.After.{same-answer}
 use Rattle.demands.proofs.Blobs.{header-back, sheet-back, never-52}
 use Rattle.demands.proofs.Listed.{code-fits, outcome-listed}
 use Rattle.demands.proofs.Answers.{numbers-answers, numbers-refuses, areas-answers, areas-refuses, position-answers, position-refuses-nothing, write-answers, write-refuses, write-blob-answers, write-blob-refuses, owner-sets-answers, owner-sets-refuses, owners-answers, owners-refuses, boundary-answers, boundary-refuses, listing-answers, listing-refuses-nothing}
+use Rattle.demands.proofs.Points.{at-answers, at-refuses}
 
 -- The number in front of a blob's numbers has 4 bytes, and in front of a sheet's there is none.
 first-length : (mode : ℕ) (s : List ℕ) → 65_800 + length (firstOf (headerBy mode s)) ≤ roomOf (numbers mode)
@@ -98,6 +99,8 @@ module _ (s : List ℕ) (all : All (λ b. b < 256) s) where
   not-forty (boundary mode way k) code item q z =
       ⊎-elim (λ r. refused-other mode s all r z) (⊎-elim (λ h. omega (arith, h .0)) (⊎-elim (λ h. omega (arith, h .0)) (λ h. omega (arith, h .0)))) (boundary-refuses mode s all way k code item .0 q)
   not-forty (listing mode way) code item q z = listing-refuses-nothing mode s all way code item q
+  not-forty (ownerAt mode way x y) code item q z =
+      ⊎-elim (λ r. refused-other mode s all r z) (⊎-elim (λ h. omega (arith, h .0)) (⊎-elim (λ h. omega (arith, h .0)) (λ h. omega (arith, h .0)))) (at-refuses mode s all way x y code item .0 q)
 
   -- ---- how long the answers are at most
   pub fits : (e : Entry) (item : ℕ) (l : List ℕ) → outcomeOf e s ≡ bytes item l → length l ≤ roomOf e
@@ -123,6 +126,7 @@ module _ (s : List ℕ) (all : All (λ b. b < 256) s) where
   fits (listing mode way) item l q =
       ⊎-elim (λ (n, o, h, e). omega (arith, ap length e, listing-most way (with-owners n o) (omega (arith, read-limits mode s all n (h .read) .few-polygons)))) (λ (code, k, r, e). omega (arith, ap length e, line-most refusedWord code (pos k)))
       (listing-answers mode s all way item l .0 q .1)
+  fits (ownerAt mode way x y) item l q = let (n, sets, h, known, o, p, k, t, i, e) = at-answers mode s all way x y item l .0 q in omega (arith, ap length e)
 
   -- ---- a call that comes to what the entry comes to, answered r and left the lent bytes as `after`
   module _ (e : Entry) (before : List ℕ) (r : ℕ) (after : List ℕ) (a : Answered (outcomeOf e s) before r after) where

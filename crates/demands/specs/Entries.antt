@@ -3,10 +3,11 @@ use mathlib.Core.Bool.{cond}
 use mathlib.Core.List.{List}
 use Prim.Native.Nat.{ℕ}
 use lib.Dec.{leb}
+use lib.IntN.{ℤ}
 use Rattle.lent.specs.Answered.{Outcome}
-use Rattle.outcomes.specs.Entries.{sheetNumbersBy, sheetAreas, sheetPosition, sheetWrite, sheetWriteBlob, sheetOwnerSetsBy, sheetOwnersBy, sheetBoundaryBy, sheetListingBy}
+use Rattle.outcomes.specs.Entries.{sheetNumbersBy, sheetAreas, sheetPosition, sheetWrite, sheetWriteBlob, sheetOwnerSetsBy, sheetOwnersBy, sheetBoundaryBy, sheetListingBy, sheetAt}
 
--- An entry, with what is asked of it besides the bytes: the mode of reading, the way to fill gaps, and for the boundary entry a polygon by its number. The entries
+-- An entry, with what is asked of it besides the bytes: the mode of reading, the way to fill gaps, for the boundary entry a polygon by its number, and for the entry at a point its x and y. The entries
 -- that take no mode and no way are those in mode 0 and way 0.
 pub data Entry : Type 0 where
   numbers : (mode : ℕ) → Entry
@@ -18,6 +19,7 @@ pub data Entry : Type 0 where
   owners : (mode way : ℕ) → Entry
   boundary : (mode way polygon : ℕ) → Entry
   listing : (mode way : ℕ) → Entry
+  ownerAt : (mode way : ℕ) (x y : ℤ) → Entry
 
 -- What the entry comes to for the bytes that it is given.
 abbrev pub outcomeOf : Entry → List ℕ → Outcome
@@ -30,8 +32,9 @@ outcomeOf (ownerSets mode) s = sheetOwnerSetsBy mode s
 outcomeOf (owners mode way) s = sheetOwnersBy mode way s
 outcomeOf (boundary mode way polygon) s = sheetBoundaryBy mode way polygon s
 outcomeOf (listing mode way) s = sheetListingBy mode way s
+outcomeOf (ownerAt mode way x y) s = sheetAt mode way x y s
 
--- The room of an entry: lent so many bytes, it never answers 40. A blob's numbers have one more than a sheet's, 4 bytes.
+-- The room of an entry: lent so many bytes, it never answers 40. A blob's numbers have one more than a sheet's, 4 bytes. What is at a point needs none.
 abbrev pub roomOf : Entry → ℕ
 roomOf (numbers mode) = cond (leb mode 1) 65_800 65_804
 roomOf (areas mode) = 512
@@ -42,3 +45,4 @@ roomOf (ownerSets mode) = 8_192
 roomOf (owners mode way) = 1_024
 roomOf (boundary mode way polygon) = 49_152
 roomOf (listing mode way) = 6_600
+roomOf (ownerAt mode way x y) = 0

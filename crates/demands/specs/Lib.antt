@@ -7,3 +7,4 @@ pub mod Triangles
 pub mod Polygons
 pub mod Answers
 pub mod Blobs
+pub mod Points

@@ -68,6 +68,30 @@ fn areas(input: &[u8], lent: &mut [u8]) -> u64 {
     sheets::sheet_areas(&input[4..], number(input, 0) as u32, lent)
 }
 
+// The number of 32 bits with a sign that a u32 stands for.
+fn signed(n: usize) -> i32
+    requires { ⌜ n < 4294967296 ⌝ }
+{
+    if n < 2_147_483_648 {
+        return n as i32;
+    }
+    (n as i64 - 4_294_967_296) as i32
+}
+
+// What is at a point; the mode, the way, and the point's x and y stand before the sheet, each as 4 little-endian bytes.
+fn at(input: &[u8]) -> u64 {
+    if input.len() < 16 {
+        return 255;
+    }
+    sheets::sheet_at(
+        &input[16..],
+        number(input, 0) as u32,
+        number(input, 4) as u32,
+        signed(number(input, 8)),
+        signed(number(input, 12)),
+    )
+}
+
 // What the entries answer that take what is asked as numbers: 7 numbers, 8 owner sets, 9 owners, 10 boundary, 11 listing. The mode, the way and the number of
 // the polygon stand before the sheet, each as a little-endian u32, also where the entry doesn't take it.
 fn by(entry: u8, input: &[u8], lent: &mut [u8]) -> u64 {
@@ -87,8 +111,8 @@ fn by(entry: u8, input: &[u8], lent: &mut [u8]) -> u64 {
     }
 }
 
-// What the entry answers: 0 numbers, 1 write, 2 owner sets, 3 owners, 4 boundary, 5 listing, 6 position, 7 to 11 those by a mode and a way, 12 write blob, 13 areas. Any
-// other answers 255, a code that no entry gives.
+// What the entry answers: 0 numbers, 1 write, 2 owner sets, 3 owners, 4 boundary, 5 listing, 6 position, 7 to 11 those by a mode and a way, 12 write blob, 13 areas, 14 at a
+// point. Any other answers 255, a code that no entry gives.
 fn answer(entry: u8, input: &[u8], lent: &mut [u8]) -> u64 {
     match entry {
         0 => sheets::sheet_numbers(input, lent),
@@ -100,6 +124,7 @@ fn answer(entry: u8, input: &[u8], lent: &mut [u8]) -> u64 {
         6 => position(input, lent),
         12 => sheets::sheet_write_blob(input, lent),
         13 => areas(input, lent),
+        14 => at(input),
         _ => by(entry, input, lent),
     }
 }

@@ -63,7 +63,7 @@ tail-is (a ∷ b ∷ c ∷ l) n e (suc (suc (suc k))) h =
 module _ (size : ℕ) (long : List ℕ) (held : All Held (take size long)) (keys : List ℕ) (n : ℕ) (whole : length keys ≡ 3 * n)
     (laid : (k : ℕ) → k < length keys → getD keys k 0 ≡ keyOf (cornerAt (take size long) (1 + 2 * k))) (room : 1 + 6 * n ≤ length (take size long)) where
   -- A corner, and the bytes of a corner and of a side.
-  point-held : (k : ℕ) → k < length keys → pointAt (getD keys k 0) ≡ pointHeld long k
+  pub point-held : (k : ℕ) → k < length keys → pointAt (getD keys k 0) ≡ pointHeld long k
   point-held k h =
       ap pointAt (laid k h) ∙ point-at (take size long) held (1 + 2 * k)
       ∙ ap₂ (λ x y. pointOf x y) (at (1 + 2 * k) (2 * k + 1) (omega arith) (omega arith)) (at (1 + 2 * k + 1) (2 * k + 2) (omega arith) (omega arith))

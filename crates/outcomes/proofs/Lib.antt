@@ -2,4 +2,5 @@
 pub mod Outcomes
 pub mod Position
 pub mod Judged
+pub mod Point
 pub mod Sized

@@ -15,9 +15,11 @@ use Rattle.lent.specs.Answered.{Outcome, bytes}
 use Rattle.lent_little.specs.Ordered
 use Rattle.lent_little.specs.Bytes.{i32, sideBytes}
 use Rattle.lent_sets.specs.Sets.{eachOutcome}
+use Rattle.table_points.specs.Points.{triangleOf}
 use Rattle.owners_marks.specs.Marks.{setOf}
 use Rattle.repair_sides.specs.Sides.{boundarySides, trianglesOwned}
 use Rattle.repair_answers.specs.Answers.{numbersAfter}
+use Rattle.repair_point.specs.Point.{ownerThere}
 use Rattle.sheet_form.specs.Numbers.{Sheet, members, numbersOf}
 use Rattle.sheet_blob.specs.declared.Opened.{Opened}
 use Rattle.sheet_blob_written.specs.Given.{blobGiven, writeBlob}
@@ -27,7 +29,7 @@ use Rattle.judged.specs.Judged.{Judged, matched, judgedSheet, repairOf}
 use Rattle.listing.specs.Listing.{listing}
 use Rattle.outcomes.specs.declared.Asked.{Asked}
 use Rattle.outcomes.specs.declared.Wanted.{Wanted}
-use Rattle.outcomes.specs.declared.Wanted.the-variants.{OwnerSets, Owners, Boundary}
+use Rattle.outcomes.specs.declared.Wanted.the-variants.{OwnerSets, Owners, Boundary, At}
 
 -- The numbers form of a sheet as bytes, each number as a little-endian i32; the item is their number.
 abbrev pub formOf : Sheet → List ℕ
@@ -105,11 +107,13 @@ abbrev pub onSheet : ℕ → Sheet → Bool
 onSheet polygon n = leb 1 polygon && leb polygon (length (n .polygons))
 
 -- What a judged sheet goes on to, repaired in a way. The owner sets before repair; a refusal of repair, or the number of each triangle after it; 41 where the
--- asked polygon isn't on the sheet, then a refusal of repair, or the boundary sides.
+-- asked polygon isn't on the sheet, then a refusal of repair, or the boundary sides; a refusal of repair, then 55 where the point belongs to no triangle, or the owner of
+-- the triangle that it belongs to.
 abbrev pub goesOn : ℕ → Wanted → Judged → Outcome
 goesOn way OwnerSets j = eachOutcome (map setOf (j .owners))
 goesOn way Owners j = andThen (repairOf way j) numbersAfter
 goesOn way (Boundary polygon) j = andThen (needing (onSheet polygon (j .sheet)) 41 0) (λ _. andThen (repairOf way j) (λ owners. sidesAfter (ownedSides (j .sheet) polygon owners)))
+goesOn way (At x y) j = andThen (repairOf way j) (ownerThere (triangleOf (record { x = x; y = y }) (j .sheet .table)))
 
 -- The road of the entries that judge: the bytes come to a judged sheet, which goes on to what is wanted.
 abbrev pub answerTo : Asked → List ℕ → Outcome
@@ -124,6 +128,10 @@ sheetOwnersBy mode way = answerTo (record { mode = mode; way = way; wanted = Own
 
 abbrev pub sheetBoundaryBy : ℕ → ℕ → ℕ → List ℕ → Outcome
 sheetBoundaryBy mode way polygon = answerTo (record { mode = mode; way = way; wanted = Boundary polygon })
+
+-- sheet_at: the owner after repair at the point (x, y) as the item. It writes no bytes.
+abbrev pub sheetAt : ℕ → ℕ → ℤ → ℤ → List ℕ → Outcome
+sheetAt mode way x y = answerTo (record { mode = mode; way = way; wanted = At x y })
 
 -- sheet_owner_sets, sheet_owners and sheet_boundary are the same in mode 0 and way 0.
 abbrev pub sheetOwnerSets : List ℕ → Outcome

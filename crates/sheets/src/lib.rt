@@ -1,7 +1,9 @@
 // The entries that both products call, on numbers and byte slices only. Each answers item × 256 + code, and only fills in what is asked. Those that
 // take no mode and no way are the others in mode 0 and way 0.
-ghost use Rattle.lent.specs.Answered.{Answered};
-ghost use Rattle.outcomes.specs.Entries.{sheetNumbers, sheetNumbersBy, sheetAreas, sheetPosition, sheetWrite, sheetWriteBlob, sheetOwnerSets, sheetOwnerSetsBy, sheetOwners, sheetOwnersBy, sheetBoundary, sheetBoundaryBy, sheetListing, sheetListingBy};
+ghost use mathlib.Core.Path.{_≡_};
+ghost use mathlib.Core.List.{[]};
+ghost use Rattle.lent.specs.Answered.{Answered, answerOf};
+ghost use Rattle.outcomes.specs.Entries.{sheetNumbers, sheetNumbersBy, sheetAreas, sheetPosition, sheetWrite, sheetWriteBlob, sheetOwnerSets, sheetOwnerSetsBy, sheetOwners, sheetOwnersBy, sheetBoundary, sheetBoundaryBy, sheetListing, sheetListingBy, sheetAt};
 use outcomes::Asked;
 use outcomes::Wanted;
 
@@ -149,4 +151,21 @@ pub extern "C" fn sheet_listing_by(sheet: &[u8], mode: u32, way: u32, out: &mut 
     ensures { λ r. ⌜ Answered (sheetListingBy mode way (now (sheet .entry))) (now (out .entry)) r (now (out .exit)) ⌝ }
 {
     sheets_answers::listing(sheet, mode, way, out)
+}
+
+// What is at the point: the number of the polygon that owns it after repair in a way, as the item, of a sheet that is read in a mode. No bytes are lent.
+#[no_mangle]
+pub extern "C" fn sheet_at(sheet: &[u8], mode: u32, way: u32, x: i32, y: i32) -> u64
+    ensures { λ r. ⌜ r ≡ answerOf (sheetAt mode way x y (now (sheet .entry))) [] ⌝ }
+{
+    let mut none = [0u8; 0];
+    sheets_answers::answer(
+        Asked {
+            mode: mode,
+            way: way,
+            wanted: Wanted::At(x, y),
+        },
+        sheet,
+        &mut none,
+    )
 }

@@ -114,6 +114,7 @@ fn go_on(
         Wanted::OwnerSets => lent_sets::each(sets, out),
         Wanted::Owners => repair_owner_bytes::owners(way, numbers, opposite, sets, out),
         Wanted::Boundary(polygon) => boundary(way, polygon, numbers, opposite, sets, out),
+        Wanted::At(x, y) => repair_point::owner_at(way, numbers, opposite, sets, x, y),
     }
 }
 

@@ -151,6 +151,7 @@ fn word(entry: Entry) -> String {
         Entry::OwnersBy(mode, _) => by("sheet_owners_by", mode),
         Entry::BoundaryBy(mode, ..) => by("sheet_boundary_by", mode),
         Entry::ListingBy(mode, _) => by("sheet_listing_by", mode),
+        Entry::At(mode, ..) => by("sheet_at", mode),
     }
 }
 

@@ -20,5 +20,6 @@ pub fn call(entry: Entry, input: &[u8], out: &mut [u8]) -> Result<u64, Refusal> 
         Entry::BoundaryBy(mode, way, polygon) => lent::boundary_by(input, mode, way, polygon, out),
         Entry::ListingBy(mode, way) => lent::listing_by(input, mode, way, out),
         Entry::WriteBlob => lent::write_blob(input, out),
+        Entry::At(mode, way, x, y) => lent::at(input, mode, way, x, y),
     }
 }

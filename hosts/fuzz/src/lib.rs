@@ -23,7 +23,10 @@ pub unsafe extern "C" fn LLVMFuzzerTestOneInput(data: *const u8, size: usize) ->
     let mode = 2 + asked % 2;
     let of_blobs = [Entry::NumbersBy(mode), Entry::Position(mode), Entry::OwnerSetsBy(mode), Entry::OwnersBy(mode, way)];
     let more = [Entry::Areas(mode), Entry::BoundaryBy(mode, way, asked), Entry::ListingBy(mode, way), Entry::WriteBlob];
-    let entries = reading.into_iter().chain(areas).chain(entries).chain(older).chain(of_blobs).chain(more);
+    let coordinate = |back: usize| input.len().checked_sub(back).map_or(0, |at| i32::from(input[at] as i8)) << (7 * asked);
+    let (x, y) = (coordinate(2), coordinate(3));
+    let points = [Entry::At(0, way, x, y), Entry::At(1, 0, y, x), Entry::At(mode, 1, x, 0), Entry::At(asked, 0, 1, 1)];
+    let entries = reading.into_iter().chain(areas).chain(entries).chain(older).chain(of_blobs).chain(more).chain(points);
     let mut difference = entries.into_iter().find_map(|entry| compare(entry, input));
     for (mode, write) in [(0, Entry::Write), (1, Entry::Write), (2, Entry::WriteBlob), (3, Entry::WriteBlob)] {
         if let Ok(numbers) = whole(Entry::NumbersBy(mode), input) {

@@ -3,13 +3,13 @@
 //! A call is the frame u8 function (by its place in `NAMES`), u32 mode, u32 way, u32 polygon, u32 input length, u32 room, then
 //! the input, all little-endian. What a function isn't asked for is 0. The bridge calls the entry with so much room, and answers
 //! u64 packed answer and exactly `room` bytes: the lent bytes after the call, where lent byte i was (i * 131 + 17) % 256 before
-//! it.
+//! it. Before the input of a point's call stand its x and y, i32 each, and count with it.
 //!
 //! A room of 2^32 - 1 asks for the bridge's wrapper, whose room is its own. The bridge answers u64 packed answer, put
 //! together from what the wrapper says; u32 length; and so many bytes, the wrapper's value turned back to bytes, none for a
 //! refusal. The wrapper alone has a verdict: its item is 0 and its value one byte, 0 for clean and 1 for repair. A wrapper is
 //! asked in known modes and ways only; its functions without a mode are called where a verdict, a position
-//! or areas have mode 0.
+//! or areas have mode 0, or a point is asked for in mode 0 and way 0.
 //!
 //! Frames may come without waiting for answers; a bridge that has no frame left to take must have flushed its answers.
 
@@ -19,7 +19,7 @@ use std::io::Read;
 use std::process::{Child, Command, Stdio};
 
 /// The functions' names, by the numbers that they have in a frame.
-pub const NAMES: [&str; 15] = [
+pub const NAMES: [&str; 16] = [
     "numbers",
     "write",
     "owner sets",
@@ -35,6 +35,7 @@ pub const NAMES: [&str; 15] = [
     "listing in a mode",
     "write blob",
     "areas",
+    "at a point",
 ];
 
 /// What is called.
@@ -83,11 +84,20 @@ impl Function {
             Function::Entry(Entry::ListingBy(mode, way)) => (12, [mode, way, 0]),
             Function::Entry(Entry::WriteBlob) => (13, [0; 3]),
             Function::Entry(Entry::Areas(mode)) => (14, [mode, 0, 0]),
+            Function::Entry(Entry::At(mode, way, ..)) => (15, [mode, way, 0]),
         }
     }
 
-    /// The entry of this number in a frame, asked in this mode and way and for this polygon, if the function is an entry.
-    pub fn entry(number: usize, [mode, way, polygon]: [u32; 3]) -> Option<Entry> {
+    /// The bytes that stand before the input: a point's x and y.
+    fn point(self) -> Vec<u8> {
+        match self {
+            Function::Entry(Entry::At(_, _, x, y)) => [x, y].map(i32::to_le_bytes).concat(),
+            _ => Vec::new(),
+        }
+    }
+
+    /// The entry of this number in a frame, asked in this mode and way and for this polygon or point, if the function is an entry.
+    pub fn entry(number: usize, [mode, way, polygon]: [u32; 3], (x, y): (i32, i32)) -> Option<Entry> {
         let plain = [Entry::Numbers, Entry::Write, Entry::WriteBlob, Entry::OwnerSets, Entry::Owners, Entry::Listing];
         let asked = [
             Entry::Boundary(polygon),
@@ -98,6 +108,7 @@ impl Function {
             Entry::OwnersBy(mode, way),
             Entry::BoundaryBy(mode, way, polygon),
             Entry::ListingBy(mode, way),
+            Entry::At(mode, way, x, y),
         ];
         let mut entries = plain.into_iter().chain(asked);
         entries.find(|entry| Function::Entry(*entry).numbers().0 == number)
@@ -123,6 +134,16 @@ impl Function {
             }
         }
     }
+}
+
+/// Whether the function of this number takes a point, whose x and y stand before the input; and the point, and the input itself.
+pub fn with_point(number: usize, input: &[u8]) -> ((i32, i32), &[u8]) {
+    if number != Function::Entry(Entry::At(0, 0, 0, 0)).numbers().0 {
+        return ((0, 0), input);
+    }
+    let (point, input) = input.split_at(8);
+    let [x, y] = [0, 4].map(|at| i32::from_le_bytes(point[at..at + 4].try_into().unwrap()));
+    ((x, y), input)
 }
 
 /// The room of a call.
@@ -168,7 +189,11 @@ impl Call {
     /// What stands for the call in a message.
     pub fn name(&self) -> String {
         let (number, [mode, way, polygon]) = self.function.numbers();
-        let asked = format!("mode {mode} way {way} polygon {polygon}");
+        let point = match self.function {
+            Function::Entry(Entry::At(_, _, x, y)) => format!(" at {x},{y}"),
+            _ => String::new(),
+        };
+        let asked = format!("mode {mode} way {way} polygon {polygon}{point}");
         format!("{} {} {asked} room {:?}", self.input, NAMES[number], self.room)
     }
 
@@ -179,10 +204,12 @@ impl Call {
             Room::Lent(room) => room as u32,
             Room::Own => u32::MAX,
         };
+        let point = self.function.point();
         let mut frame = vec![number as u8];
-        for part in asked.into_iter().chain([input.len() as u32, room]) {
+        for part in asked.into_iter().chain([(point.len() + input.len()) as u32, room]) {
             frame.extend(part.to_le_bytes());
         }
+        frame.extend(point);
         frame.extend(input);
         frame
     }

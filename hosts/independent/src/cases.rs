@@ -16,6 +16,7 @@ mod ground;
 mod large;
 mod numbers;
 mod older;
+mod points;
 mod positions;
 mod reading;
 mod repair;
@@ -46,6 +47,7 @@ pub fn all() -> Vec<Case> {
         older::cases,
         blobs::cases,
         areas::cases,
+        points::cases,
     ];
     groups.iter().for_each(|group| group(&mut cases));
     cases.0
@@ -161,6 +163,10 @@ mod tests {
                 let bytes = areas.iter().flat_map(|area| area.to_le_bytes()).collect();
                 answered(Entry::Areas(mode), input) == (256 * areas.len() as u64, Some(bytes))
             }
+            Outcome::Owned(points) => points.iter().all(|&(x, y, owner)| {
+                let right = if owner == 0 { (55, None) } else { (256 * owner, Some(Vec::new())) };
+                answered(Entry::At(mode, 0, x, y), input) == right
+            }),
             Outcome::Holds(number, sheet) => {
                 let numbers = whole(Entry::Numbers, sheet).unwrap().bytes;
                 let held = [&number.to_le_bytes()[..], &numbers].concat();
@@ -294,6 +300,20 @@ mod tests {
         }
         assert_eq!(answer(Entry::Position(7), &strip[..300], 16), (16 * 256, told(57)));
         assert_eq!(answer(Entry::Position(0), &[], 15), (40, None));
+    }
+
+    /// What a point is answered with comes after all that the owner entry is refused by, whatever the point.
+    #[test]
+    fn a_point_is_refused_as_the_owner_entry_and_then_by_55() {
+        for (name, input) in sheets() {
+            let owners = [0, 1, 2].map(|way| whole(Entry::OwnersBy(0, way), &input).err());
+            for (x, y) in [(0, 0), (i32::MIN, i32::MIN), (i32::MAX, i32::MAX), (10_000_000, 10_000_000)] {
+                let at = [0, 1, 2].map(|way| whole(Entry::At(0, way, x, y), &input).err());
+                let passed = at.map(|refusal| refusal.filter(|refusal| refusal.code != 55));
+                assert_eq!(passed, owners, "{name}");
+                assert!((x, y) == (0, 0) || at.iter().all(Option::is_some), "{name}");
+            }
+        }
     }
 
     /// A request that adds a mode or a way changes these numbers.

@@ -6,8 +6,9 @@ use crate::cases::{self, Case};
 use crate::entries::{whole, Entry, Success};
 use crate::generate::{generate, in_blob};
 use crate::made::Head;
-use crate::ownership::{judge, judge_sheet, member_double_area, Judged, PointsInside};
+use crate::ownership::{edges, judge, judge_sheet, member_double_area, Judged, PointsInside};
 use crate::plane::{double_area, sides};
+use crate::points::{belongs, to_ask};
 use crate::reading::{read, read_in, read_or_fault, Fault, Mode};
 use crate::repair::{boundary_sides, repair, WAYS};
 use crate::table::{frame, Table};
@@ -358,6 +359,47 @@ fn positions_are_those_of_the_first_fault() {
         *times.entry((code, in_y)).or_insert(0) += 1;
     }
     assert!(times.len() == 9 && times.values().all(|count| *count > 20), "{times:?}");
+}
+
+/// How often the rings of a member wind round a point: the edges that begin at or below its height and end above it, with the point
+/// strictly to their left, less those that begin above and end at or below, with the point strictly to their right.
+fn winding(member: &Member, point: Point) -> i64 {
+    let passes = |(p, q): Side| {
+        let turn = double_area(&[p, q, point]);
+        let (up, down) = (p.y <= point.y && q.y > point.y, p.y > point.y && q.y <= point.y);
+        i64::from(up && turn > 0) - i64::from(down && turn < 0)
+    };
+    edges(member).map(passes).sum()
+}
+
+/// Every grid point from the frame's least x and y up to but not including the greatest belongs to exactly one triangle, and grid points
+/// elsewhere to none; and a polygon owns the point's triangle before repair exactly if its rings wind once round the point, and never
+/// otherwise than 0 or 1 times. So too where coordinates are large.
+#[test]
+fn points_belong_to_one_triangle_and_are_owned_by_what_winds_round_them() {
+    let mut times = [0; 3];
+    for (name, input) in inputs() {
+        let Ok(judged) = judge_sheet(Mode::PRESENT, &input) else { continue };
+        let triangles = &judged.table.triangles;
+        let [least, _, greatest, _] = frame(&triangles.concat());
+        for (x, y) in to_ask(&judged.sheet) {
+            let point = Point { x: x.into(), y: y.into() };
+            let framed = (least.x..greatest.x).contains(&point.x) && (least.y..greatest.y).contains(&point.y);
+            let found: Vec<usize> = (0..triangles.len()).filter(|place| belongs(&triangles[*place], point)).collect();
+            assert_eq!(found.len(), usize::from(framed), "{name} at {x},{y}");
+            let owned = found.first().map_or(0, |place| judged.owners[*place]);
+            for (place, member) in judged.sheet.polygons.iter().enumerate() {
+                assert_eq!(
+                    winding(member, point),
+                    (owned >> place & 1) as i64,
+                    "{name} at {x},{y}, polygon {}",
+                    place + 1
+                );
+            }
+            times[if !framed { 0 } else { 1 + usize::from(owned.count_ones() == 1) }] += 1;
+        }
+    }
+    assert!(times.iter().all(|count| *count > 1_000), "{times:?} off the frame, in gaps and overlaps, owned once");
 }
 
 /// A header that is read is the bytes that are made of what it says. One that is cut short ends in its field; and one that is

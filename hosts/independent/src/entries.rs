@@ -3,7 +3,7 @@
 use crate::ownership::{judge_sheet, member_double_area, Judged};
 use crate::reading::{read_in, Mode};
 use crate::repair::{boundary_sides, repaired};
-use crate::{listing, writing, Refusal};
+use crate::{listing, points, writing, Point, Refusal};
 use std::cell::OnceCell;
 
 /// One of the entries called from outside.
@@ -37,12 +37,14 @@ pub enum Entry {
     BoundaryBy(u32, u32, u32),
     /// The printed listing in the mode and the way of these numbers, which answers no refusal but 40.
     ListingBy(u32, u32),
+    /// The owner after repair at a point, in the mode and the way of these numbers, by x and y; no bytes are lent.
+    At(u32, u32, i32, i32),
 }
 
 /// What an entry would write if enough bytes were lent, and the item of its success.
 #[derive(Clone, PartialEq, Eq, Debug)]
 pub struct Success {
-    /// The number of triangles, of polygons, of sides, or of bytes.
+    /// The number of triangles, of polygons, of sides, or of bytes; of a point its owner.
     pub item: u64,
     /// The bytes written at the front of the lent ones.
     pub bytes: Vec<u8>,
@@ -115,6 +117,7 @@ impl<'a> Input<'a> {
             Entry::OwnersBy(mode, way) => owners(self.judged_by(mode)?, way),
             Entry::BoundaryBy(mode, way, asked) => boundary(self.judged_by(mode)?, way, asked),
             Entry::ListingBy(mode, way) => Ok(counted(listing::of(self.judged_by(mode), way).into_bytes())),
+            Entry::At(mode, way, x, y) => at(self.judged_by(mode)?, way, x, y),
         }
     }
 
@@ -159,6 +162,12 @@ fn owner_sets(judged: &Judged) -> Success {
 
 fn owners(judged: &Judged, way: u32) -> Result<Success, Refusal> {
     Ok(counted(repaired(judged, way)?))
+}
+
+/// After 20 and 21 come 54, 30 and 55.
+fn at(judged: &Judged, way: u32, x: i32, y: i32) -> Result<Success, Refusal> {
+    let owner = points::owner_at(judged, way, Point { x: x.into(), y: y.into() })?;
+    Ok(Success { item: owner.into(), bytes: Vec::new() })
 }
 
 /// After 20 and 21 come 41, 54 and 30.

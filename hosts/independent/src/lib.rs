@@ -16,6 +16,7 @@ pub mod listing;
 pub mod made;
 pub mod ownership;
 pub mod plane;
+pub mod points;
 pub mod reading;
 pub mod repair;
 pub mod stored;

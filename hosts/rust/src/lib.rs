@@ -26,6 +26,7 @@ extern "C" {
     fn sheet_boundary_by(sheet: *const u8, sheet_len: usize, mode: u32, way: u32, polygon: u32, out: *mut u8, out_len: usize) -> u64;
     fn sheet_listing_by(sheet: *const u8, sheet_len: usize, mode: u32, way: u32, out: *mut u8, out_len: usize) -> u64;
     fn sheet_write_blob(numbers: *const u8, numbers_len: usize, out: *mut u8, out_len: usize) -> u64;
+    fn sheet_at(sheet: *const u8, sheet_len: usize, mode: u32, way: u32, x: i32, y: i32) -> u64;
 }
 
 /// Room that is always enough for the numbers form of a sheet.
@@ -230,6 +231,10 @@ pub mod lent {
     pub fn write_blob(numbers: &[u8], out: &mut [u8]) -> Result<u64, Refusal> {
         call(out, |p, n| unsafe { sheet_write_blob(numbers.as_ptr(), numbers.len(), p, n) })
     }
+    /// The owner at a point after repair, in the mode and the way of these numbers, as the item. No bytes are lent.
+    pub fn at(sheet: &[u8], mode: u32, way: u32, x: i32, y: i32) -> Result<u64, Refusal> {
+        unpacked(unsafe { sheet_at(sheet.as_ptr(), sheet.len(), mode, way, x, y) })
+    }
 }
 
 /// A point, x and y in millimetres.
@@ -409,4 +414,16 @@ pub fn position_by(sheet: &[u8], mode: Mode) -> Position {
 /// [`verdict`] in a mode.
 pub fn verdict_by(sheet: &[u8], mode: Mode) -> Verdict {
     typed::verdict(owner_sets_by(sheet, mode))
+}
+
+/// What is at the point: the number of the polygon that owns it after repair, in a mode and a way, and in the present one by priority. A point belongs to a
+/// triangle if it is strictly to the left of each side, or on the line of one that runs downward or level to the right: every point from the frame's least x
+/// and y up to but not including the greatest belongs to exactly one, and any other is refused, by 55.
+pub fn at_by(sheet: &[u8], mode: Mode, way: Way, (x, y): Point) -> Result<u8, Refusal> {
+    lent::at(sheet, mode as u32, way as u32, x, y).map(|owner| owner as u8)
+}
+
+/// [`at_by`] in the present mode, by priority.
+pub fn at(sheet: &[u8], point: Point) -> Result<u8, Refusal> {
+    at_by(sheet, Mode::Present, Way::Priority, point)
 }

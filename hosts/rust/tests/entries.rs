@@ -1,5 +1,5 @@
 //! The safe functions on the example sheets, whose listings are stored beside them.
-use sheets::{areas, boundary, lent, listing, numbers, owner_sets, owners, position, verdict, write, write_blob};
+use sheets::{areas, at, at_by, boundary, lent, listing, numbers, owner_sets, owners, position, verdict, write, write_blob};
 use sheets::{areas_by, boundary_by, listing_by, numbers_by, owner_sets_by, owners_by, position_by, verdict_by};
 use sheets::{Mode, Position, Refusal, Verdict, Way};
 
@@ -72,6 +72,19 @@ fn areas_are_those_of_the_corners() {
     assert_eq!(lent, [7; 17]);
     assert_eq!(lent::areas(&sheet, 1, &mut lent), Ok(2));
     assert_eq!(lent, [32, 0, 0, 0, 0, 0, 0, 0, 32, 0, 0, 0, 0, 0, 0, 0, 7]);
+}
+
+#[test]
+fn a_point_has_the_owner_of_its_triangle_after_repair() {
+    let sheet = example("strip.wkb");
+    let off = Err(Refusal { code: 55, item: 0 });
+    assert_eq!([(0, 0), (3, 3), (4, 0), (7, 3)].map(|point| at(&sheet, point)), [Ok(1), Ok(1), Ok(2), Ok(2)]);
+    assert_eq!([(8, 0), (0, 4), (-1, 0), (0, -1), (i32::MIN, i32::MAX)].map(|point| at(&sheet, point)), [off; 5]);
+    assert_eq!(at_by(&sheet, Mode::Older, Way::Longest, (7, 3)), Ok(2));
+    assert_eq!(at(&example("no-polygons.wkb"), (i32::MAX, 0)), Err(Refusal { code: 30, item: 0 }));
+    assert_eq!(lent::at(&sheet, 4, 2, 0, 0), Err(Refusal { code: 57, item: 0 }));
+    assert_eq!(lent::at(&sheet, 0, 2, -1, -1), Err(Refusal { code: 54, item: 0 }));
+    assert_eq!(lent::at(&[], 0, 0, 0, 0), Err(Refusal { code: 1, item: 0 }));
 }
 
 #[test]

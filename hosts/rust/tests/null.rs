@@ -61,7 +61,18 @@ fn every_entry_answers_null_pointers_with_length_0() {
         };
         assert_eq!((name, answers), (name, &wanted));
     }
-    assert_eq!(answers.iter().map(|(name, _)| name.to_string()).collect::<Vec<_>>(), declared());
+    let lent = answers.iter().map(|(name, _)| name.to_string());
+    assert_eq!(lent.chain(["sheet_at".to_string()]).collect::<Vec<_>>(), declared());
+}
+
+/// The entry that is lent no bytes.
+#[test]
+fn a_point_of_a_null_pointer_is_answered() {
+    extern "C" {
+        fn sheet_at(sheet: *const u8, size: usize, mode: u32, way: u32, x: i32, y: i32) -> u64;
+    }
+    // SAFETY: no byte is read through a null pointer with length 0.
+    assert_eq!(unsafe { [sheet_at(null(), 0, 0, 0, 0, 0), sheet_at(null(), 0, 9, 0, -1, 1)] }, [1, 57]);
 }
 
 #[test]

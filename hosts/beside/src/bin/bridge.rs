@@ -2,8 +2,8 @@
 //! library on the other side of a pipe. `independent::bridge` has the frames.
 
 use beside::call;
-use independent::bridge::{before_call, Function};
-use sheets::{areas, boundary, listing, numbers, owner_sets, owners, position, verdict, write, write_blob};
+use independent::bridge::{before_call, with_point, Function};
+use sheets::{areas, at, at_by, boundary, listing, numbers, owner_sets, owners, position, verdict, write, write_blob};
 use sheets::{areas_by, boundary_by, listing_by, numbers_by, owner_sets_by, owners_by, position_by, verdict_by};
 use sheets::{Mode, Point, Position, Refusal, Sheet, Verdict, Way};
 use std::io::{BufRead, BufReader, Read, Write};
@@ -35,15 +35,16 @@ fn answer(frames: &mut impl Read) -> Vec<u8> {
     let asked = [1, 5, 9].map(number);
     let mut input = vec![0; number(13) as usize];
     frames.read_exact(&mut input).expect("a whole frame");
+    let (point, input) = with_point(head[0].into(), &input);
     match number(17) {
-        u32::MAX => own(typed(head[0], asked, &input)),
-        room => lent(head[0], asked, &input, room as usize),
+        u32::MAX => own(typed(head[0], asked, point, input)),
+        room => lent(head[0], asked, point, input, room as usize),
     }
 }
 
 /// The answer of a function on lent bytes, with these bytes after the call.
-fn lent(function: u8, asked: [u32; 3], input: &[u8], room: usize) -> Vec<u8> {
-    let entry = Function::entry(function.into(), asked).expect("an entry");
+fn lent(function: u8, asked: [u32; 3], point: Point, input: &[u8], room: usize) -> Vec<u8> {
+    let entry = Function::entry(function.into(), asked, point).expect("an entry");
     let mut lent: Vec<u8> = (0..room).map(before_call).collect();
     let packed = packed(call(entry, input, &mut lent));
     [&packed.to_le_bytes()[..], &lent].concat()
@@ -59,7 +60,7 @@ fn own(answer: Answer) -> Vec<u8> {
 }
 
 /// What a function with ordinary types answers.
-fn typed(function: u8, [mode_number, way_number, polygon]: [u32; 3], input: &[u8]) -> Answer {
+fn typed(function: u8, [mode_number, way_number, polygon]: [u32; 3], point: Point, input: &[u8]) -> Answer {
     let (mode, way) = (mode(mode_number), way(way_number));
     match function {
         0 => numbers(input).map(|numbers| counted(bytes(&by_name(&numbers)))),
@@ -80,6 +81,8 @@ fn typed(function: u8, [mode_number, way_number, polygon]: [u32; 3], input: &[u8
         13 => write_blob(&whole_numbers(input)).map(counted),
         14 if mode == Mode::Present => areas(input).map(of_areas),
         14 => areas_by(input, mode).map(of_areas),
+        15 if mode == Mode::Present && way == Way::Priority => at(input, point).map(of_owner),
+        15 => at_by(input, mode, way, point).map(of_owner),
         function => panic!("there is no function {function}"),
     }
 }
@@ -115,6 +118,10 @@ fn of_sets(sets: Vec<u64>) -> (u64, Vec<u8>) {
 
 fn of_areas(areas: Vec<i64>) -> (u64, Vec<u8>) {
     (areas.len() as u64, areas.iter().flat_map(|area| area.to_le_bytes()).collect())
+}
+
+fn of_owner(owner: u8) -> (u64, Vec<u8>) {
+    (owner.into(), Vec::new())
 }
 
 fn of_sides(sides: Vec<(Point, Point)>) -> (u64, Vec<u8>) {

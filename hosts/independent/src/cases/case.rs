@@ -30,6 +30,8 @@ pub enum Outcome {
     Unread(u8, u64, u64),
     /// Its polygons have these double areas.
     Areas(Vec<i64>),
+    /// At each of these points, by x and y, the owner after repair by priority, 0 where it belongs to no triangle.
+    Owned(Vec<(i32, i32, u64)>),
     /// The first in the present mode, the second in the older one.
     InModes(Box<Outcome>, Box<Outcome>),
     /// These numbers make up a sheet.
@@ -93,6 +95,11 @@ impl Cases {
     /// A sheet with these numbers after repair by priority, and those by the longest shared boundary.
     pub fn in_ways(&mut self, name: impl Into<String>, sheet: Geometry, priority: &[u8], longest: &[u8]) {
         self.add(name, sheet, Outcome::InWays(priority.to_vec(), longest.to_vec()));
+    }
+
+    /// A sheet with these owners at points.
+    pub fn owned(&mut self, name: impl Into<String>, sheet: Geometry, at: &[(i32, i32, u64)]) {
+        self.add(name, sheet, Outcome::Owned(at.to_vec()));
     }
 
     /// A sheet that is refused.

@@ -2,9 +2,9 @@
 //!
 //! A frame is a byte for the entry (0 numbers, 1 write, 2 owner sets, 3 owners, 4 boundary, 5 listing, 6 position; 7 numbers, 8
 //! owner sets, 9 owners, 10 boundary, 11 listing by a mode and a way; 12 write blob; 13
-//! areas), u32 length of the input, u32 number of lent
+//! areas; 14 at a point), u32 length of the input, u32 number of lent
 //! bytes, and the input, little-endian; before a sheet that the boundary entry takes stands the polygon's number, a u32, before one that the
-//! position entry and the areas entry take the mode, a u32, and before one that those from 7 to 11 take mode, way and polygon, three u32. A line has
+//! position entry and the areas entry take the mode, a u32, and before one that those from 7 to 11 take mode, way and polygon, three u32, and before one that is asked at a point mode, way, x and y. A line has
 //! the packed answer, a blank, and a checksum of all lent bytes after the call, each 170 before it.
 //!
 //! The calls are few, chosen for what they try; `differ` makes those of all cases, on libsheets.a.
@@ -79,10 +79,31 @@ fn calls() -> Vec<Call> {
         let entries = [Entry::OwnersBy(0, 1), Entry::BoundaryBy(1, 1, 1), Entry::ListingBy(0, 1)];
         calls.extend(entries.map(|entry| Call { entry, input: case.input.clone(), room: 200 }));
     }
+    calls.extend(at_points());
     let by = [(0, 0, 1), (0, 1, 1), (7, 0, 1), (u32::MAX, 2, 1), (0, 2, 1), (1, u32::MAX, 3)].into_iter().flat_map(by);
     let on_strip = asked.into_iter().chain(modes).chain(by);
     calls.extend(on_strip.map(|entry| Call { entry, input: strip.clone(), room: 200 }));
     calls
+}
+
+/// The points asked for: on the strip sheet the frame's corners and ends, a corner and a side of the table, and the ends of the range; what
+/// is before 55 on the shortest case of each code, in the present mode, and of blobs of the codes that they alone have; and a case of way 1.
+fn at_points() -> Vec<Call> {
+    let call = |entry, input: &[u8], room| Call { entry, input: input.to_vec(), room };
+    let strip = cases::named("strip");
+    let points = [(0, 0), (7, 3), (8, 0), (0, 4), (-1, 2), (4, 3)];
+    let far = [(i32::MIN, i32::MIN), (i32::MAX, i32::MAX)];
+    let on_strip = points.into_iter().chain(far).map(|(x, y)| call(Entry::At(0, 0, x, y), &strip, 0));
+    let asked = [(1, 0), (0, 1), (7, 0), (u32::MAX, 2), (0, 2), (0, u32::MAX)];
+    let by = asked.map(|(mode, way)| call(Entry::At(mode, way, 7, 3), &strip, 9));
+    let of_codes = shortest(Entry::At(0, 0, 0, 0), Case::is_sheet).into_values();
+    let sheets = of_codes.map(|case| call(Entry::At(0, 0, 0, 0), &case.input, 9));
+    let of_blobs =
+        shortest(Entry::At(2, 0, 0, 0), Case::is_blob).into_iter().filter(|(code, _)| (50..=52).contains(code));
+    let blobs = of_blobs.map(|(_, case)| call(Entry::At(2, 0, 0, 0), &case.input, 9));
+    let in_ways =
+        named(&IN_WAYS[1..2]).flat_map(|case| [0, 1].map(|way| call(Entry::At(0, way, 3, 1), &case.input, 9)));
+    on_strip.chain(by).chain(sheets).chain(blobs).chain(in_ways).collect()
 }
 
 /// The entries in this mode and this way, asked for this polygon.
@@ -189,6 +210,7 @@ impl Call {
             Entry::ListingBy(mode, way) => (11, vec![mode, way, 0]),
             Entry::WriteBlob => (12, vec![]),
             Entry::Areas(mode) => (13, vec![mode]),
+            Entry::At(mode, way, x, y) => (14, vec![mode, way, x as u32, y as u32]),
         };
         let asked: Vec<u8> = asked.iter().flat_map(|number| number.to_le_bytes()).collect();
         let length = (asked.len() + self.input.len()) as u32;
@@ -247,7 +269,9 @@ mod tests {
         let blobs = [50, 51, 52, 57];
         let repaired =
             [by(&by(&owners, &blobs), &[54]), by(&by(&boundary, &blobs), &[54]), vec![0, 40], vec![0, 40, 42]];
-        let in_modes = [&[by(&reading, &blobs), by(&judging, &blobs)][..], &repaired, &[by(&reading, &blobs)]].concat();
+        let at = by(&by(&owners[..9], &owners[10..]), &[50, 51, 52, 54, 55, 57]);
+        let in_modes =
+            [&[by(&reading, &blobs), by(&judging, &blobs)][..], &repaired, &[by(&reading, &blobs), at]].concat();
         let wanted: Vec<Vec<u8>> = without.iter().map(|codes| codes.to_vec()).chain(in_modes).collect();
         let stored: BTreeSet<(u8, u8)> = tried().into_iter().map(|(entry, code, _)| (entry, code)).collect();
         let numbered = wanted.iter().enumerate();
@@ -268,13 +292,13 @@ mod tests {
         let of = |less: fn(usize) -> usize| -> BTreeSet<u8> {
             calls().iter().filter(|call| short(call, less)).map(|call| call.frame()[0]).collect()
         };
-        assert_eq!((of(|length| length - 1), of(|_| 0)), ((0..14).collect(), (0..14).collect()));
+        assert_eq!((of(|length| length.wrapping_sub(1)), of(|_| 0)), ((0..14).collect(), (0..15).collect()));
     }
 
     #[test]
     fn the_stored_input_is_small() {
         let (frames, lines) = frames_and_lines();
-        assert!(frames.len() < 360_000, "{} bytes", frames.len());
+        assert!(frames.len() < 380_000, "{} bytes", frames.len());
         assert!(lines.split(|byte| *byte == b'\n').count() > 200);
     }
 }

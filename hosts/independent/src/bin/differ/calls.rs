@@ -4,6 +4,8 @@ use crate::inputs::{Given, Inputs};
 use independent::blob::Header;
 use independent::bridge::{Call, Function, Room, Takes};
 use independent::entries::{fit, Entry, Input, Success};
+use independent::points::{in_dispute, to_ask};
+use independent::reading::{read_in, Mode};
 use independent::repair::WAYS;
 use independent::{reading, Refusal};
 
@@ -39,7 +41,11 @@ impl Calls {
         let header = Header::read(&given.blob).err().map_or(0, |fault| fault.refusal.code);
         let refused = of_blobs && matches!(header, 50 | 51);
         let every = matches!(self.inputs, Inputs::Cases(_)) && given.sheet.len() < LONG && !refused;
-        for (purpose, function) in self.functions(place, &given.sheet, every).into_iter().enumerate() {
+        let own = if of_blobs { Takes::Blob } else { Takes::Sheet };
+        let at_points = self.at_points(place, given.of(own), &inputs[own as usize], every);
+        let functions =
+            self.functions(place, &given.sheet, every).into_iter().chain(at_points.into_iter().map(Function::Entry));
+        for (purpose, function) in functions.enumerate() {
             let takes = function.takes();
             let own = of_blobs == matches!(takes, Takes::Blob | Takes::BlobNumbers);
             let answer = function.whole(&inputs[takes as usize]);
@@ -52,10 +58,13 @@ impl Calls {
     }
 
     /// The rooms of a call, every kind or one, each with the answer that is right with it; or a wrapper's own. A position has
-    /// room enough on every input.
+    /// room enough on every input, and a point none.
     fn with_rooms(&self, function: Function, number: u64, every: bool, answer: Answer) -> Vec<(Room, Answer)> {
         if self.wrapped {
             return vec![(Room::Own, answer)];
+        }
+        if matches!(function, Function::Entry(Entry::At(..))) {
+            return vec![(Room::Lent(0), answer)];
         }
         let [exact, ..] = every_room(&answer);
         let mut rooms = if every { every_room(&answer).to_vec() } else { vec![room(number, &answer)] };
@@ -93,6 +102,31 @@ impl Calls {
         let blob_modes = BLOB_MODES.into_iter().filter(|_| with_blob);
         let verdicts = MODES.into_iter().chain(blob_modes).map(Function::Verdict).filter(|_| self.wrapped);
         entries.into_iter().map(Function::Entry).chain(verdicts).collect()
+    }
+
+    /// The owner at points of an input: of a case at all that are to be asked for, in its first mode and way, and at one of them in each
+    /// mode and way, and in numbers that are none's; else at two, mostly in a known mode and way. And in both ways where they differ.
+    fn at_points(&self, place: u64, bytes: &[u8], input: &Input, every: bool) -> Vec<Entry> {
+        let modes = if self.inputs.of_blobs(place) { BLOB_MODES } else { MODES };
+        let read = Mode::numbered(modes[0]).ok().and_then(|mode| read_in(mode, bytes).ok());
+        let disputed = input.judged_by(modes[0]).ok().and_then(in_dispute);
+        let in_ways = disputed.into_iter().flat_map(|(x, y)| WAYS.map(|way| Entry::At(modes[0], way, x, y)));
+        let points = to_ask(&read.map(|read| read.sheet).unwrap_or_default());
+        let at = |mode: u32, way: u32, purpose: u64| {
+            let (x, y) = points[mixed(place, purpose) as usize % points.len()];
+            Entry::At(mode, way, x, y)
+        };
+        if !every {
+            let (mode, way) = (self.chosen(place, 101, &modes, &NO_MODES), self.chosen(place, 102, &WAYS, &NO_WAYS));
+            return [at(modes[0], 0, 107), at(mode, way, 108)].into_iter().chain(in_ways).collect();
+        }
+        let mut entries: Vec<Entry> = points.iter().map(|(x, y)| Entry::At(modes[0], 0, *x, *y)).collect();
+        for mode in modes.into_iter().chain(self.unknown(&NO_MODES, mixed(place, 101))) {
+            let ways = WAYS.into_iter().chain(self.unknown(&NO_WAYS, mixed(place, 102)));
+            entries.extend(ways.map(|way| at(mode, way, 107 + u64::from(way % 2))));
+        }
+        entries.extend(in_ways);
+        entries
     }
 
     /// One of these numbers; none for a wrapper, which has known modes and ways only.

@@ -1,0 +1,2 @@
+-- What the sides of a triangle keep, off held corners.
+pub mod Kept

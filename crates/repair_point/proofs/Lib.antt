@@ -1,0 +1,2 @@
+-- The triangle of a point, off the held numbers.
+pub mod Finding

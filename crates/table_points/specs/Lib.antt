@@ -1,0 +1,2 @@
+-- Grid points of a table.
+pub mod Points

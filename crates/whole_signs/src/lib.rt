@@ -1,0 +1,1 @@
+// No code: the sign of a whole number, and proofs by going through all signs.
