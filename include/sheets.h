@@ -6,8 +6,8 @@
    description says, for every input.
 
    How every entry works
-     - It takes the bytes of its input and bytes lent for the answer (sheet_at alone has none): a pointer and a length each. A length of 0 may come with any pointer, null too.
-       The input and the lent bytes must not overlap.
+     - It takes the bytes of its input, some entries an index besides, and bytes lent for the answer (sheet_at alone has none): a pointer and a length each. A length of 0
+       may come with any pointer, null too. The lent bytes must not overlap the others.
      - It answers one number, item * 256 + code: SHEETS_CODE(answer), SHEETS_ITEM(answer).
      - Code 0 is success: the answer's bytes stand at the front of the lent bytes, and the lent bytes past them keep their values. The item says how
        long the answer is (in bytes, triangles, polygons or sides, as said below), of sheet_at whose the point is.
@@ -48,8 +48,9 @@ extern "C" {
 #define SHEETS_BLOB_NUMBERS_ROOM 65804
 #define SHEETS_WRITE_BLOB_ROOM 158330
 #define SHEETS_AREAS_ROOM 512
+#define SHEETS_INDEX_ROOM 6144
 
-/* What the entries whose names end in _by are asked by, sheet_position and sheet_areas: the mode, how the sheet is read, and the way, how gaps are filled. */
+/* What the entries whose names end in _by or _indexed are asked by, sheet_position, sheet_areas and sheet_index: the mode, how the sheet is read, and the way, how gaps are filled. */
 #define SHEETS_MODE_PRESENT 0
 #define SHEETS_MODE_OLDER 1
 #define SHEETS_MODE_BLOB 2
@@ -146,6 +147,20 @@ uint64_t sheet_listing_by(const uint8_t *sheet, size_t sheet_len, uint32_t mode,
    of the table as its envelope, whether or not the table keeps the rules; the sheet is as sheet_write makes it. Reading it in SHEETS_MODE_BLOB gives the same
    numbers back. Item: bytes. Refusals: 42, 40. */
 uint64_t sheet_write_blob(const uint8_t *numbers, size_t numbers_len, uint8_t *out, size_t out_len);
+
+/* The index of a sheet's table, to be kept beside the sheet and lent to the entries below: for each triangle and side, by triangle and then ab, bc, ca, the number of
+   the triangle with the reversed side as a little-endian uint16, 0 for none. It is built once the table has passed the rules and the envelope. Item: bytes, 6 for each
+   triangle. Refusals: 57, 1 to 8, 10, 11, 12, 52, 40. */
+uint64_t sheet_index(const uint8_t *sheet, size_t sheet_len, uint32_t mode, uint8_t *out, size_t out_len);
+
+/* sheet_owner_sets_by, sheet_owners_by and sheet_boundary_by with an index. One that differs from the table's own in length or content, an empty one too, is refused
+   53, right before 20/21; with the table's own the answers are those without one. Where sheet_index refuses the sheet they give the same refusal, whatever is
+   lent. Refusals: 57, 1 to 8, 10, 11, 12, 52, 53, and then as without an index. */
+uint64_t sheet_owner_sets_indexed(const uint8_t *sheet, size_t sheet_len, const uint8_t *index, size_t index_len, uint32_t mode, uint8_t *out, size_t out_len);
+uint64_t sheet_owners_indexed(const uint8_t *sheet, size_t sheet_len, const uint8_t *index, size_t index_len, uint32_t mode, uint32_t way, uint8_t *out,
+                              size_t out_len);
+uint64_t sheet_boundary_indexed(const uint8_t *sheet, size_t sheet_len, const uint8_t *index, size_t index_len, uint32_t mode, uint32_t way, uint32_t polygon,
+                                uint8_t *out, size_t out_len);
 
 /* What is at the point (x, y), in millimetres, any two numbers: the number of the polygon that owns it after repair in the way, as the item. A point belongs to a
    triangle if, for each side, it is strictly to the left, or lies on the line of a side that runs downward, or on that of a side that runs level to the right. Every

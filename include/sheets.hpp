@@ -294,6 +294,36 @@ inline std::string listing_by(const std::uint8_t *sheet, std::size_t size, Mode 
     });
 }
 
+// The index of a sheet's table, to be kept beside the sheet and lent to the functions below, in a mode, and in the present one.
+inline Answer<Bytes> index_by(const std::uint8_t *sheet, std::size_t size, Mode mode) {
+    return inside::call(SHEETS_INDEX_ROOM, 1,
+                        [&](std::uint8_t *lent, std::size_t room) { return sheet_index(inside::given(sheet, size), size, inside::number(mode), lent, room); });
+}
+
+inline Answer<Bytes> index(const std::uint8_t *sheet, std::size_t size) { return index_by(sheet, size, Mode::Present); }
+
+// The same with an index, which is refused 53 where it isn't the one of the sheet's table.
+inline Answer<std::vector<std::uint64_t>> owner_sets_indexed(const std::uint8_t *sheet, std::size_t size, const Bytes &index, Mode mode) {
+    return inside::owner_sets([&](std::uint8_t *lent, std::size_t room) {
+        return sheet_owner_sets_indexed(inside::given(sheet, size), size, inside::given(index.data(), index.size()), index.size(), inside::number(mode), lent,
+                                        room);
+    });
+}
+
+inline Answer<Bytes> owners_indexed(const std::uint8_t *sheet, std::size_t size, const Bytes &index, Mode mode, Way way) {
+    return inside::owners([&](std::uint8_t *lent, std::size_t room) {
+        return sheet_owners_indexed(inside::given(sheet, size), size, inside::given(index.data(), index.size()), index.size(), inside::number(mode),
+                                    inside::number(way), lent, room);
+    });
+}
+
+inline Answer<std::vector<Side>> boundary_indexed(const std::uint8_t *sheet, std::size_t size, const Bytes &index, Mode mode, Way way, std::uint32_t polygon) {
+    return inside::boundary([&](std::uint8_t *lent, std::size_t room) {
+        return sheet_boundary_indexed(inside::given(sheet, size), size, inside::given(index.data(), index.size()), index.size(), inside::number(mode),
+                                      inside::number(way), polygon, lent, room);
+    });
+}
+
 inline Verdict verdict_by(const std::uint8_t *sheet, std::size_t size, Mode mode) { return inside::verdict(owner_sets_by(sheet, size, mode)); }
 
 // What is at the point (x, y): the number of the polygon that owns it after repair, in a mode and a way, and in the present one by priority. 55 for a point that

@@ -3,6 +3,8 @@ pub mod Total
 pub mod Reading
 pub mod Writing
 pub mod Answers
+pub mod Neighbours
+pub mod Index
 pub mod Positions
 pub mod Areas
 pub mod Points

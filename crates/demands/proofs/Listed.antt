@@ -1,7 +1,7 @@
 -- Every refusal that an entry comes to stands in document 01's table. The idea: it is known exactly when an entry gives which code (Answers), and the
 -- sheet read has at most 1,024 triangles and 64 polygons. Assumes nothing.
-use mathlib.Core.Path.{_≡_, refl, sym, subst}
-use mathlib.Core.Logic.{⊎-elim}
+use mathlib.Core.Path.{_≡_, refl, sym, _∙_, subst}
+use mathlib.Core.Logic.{inl, inr, ⊎-elim}
 use mathlib.Core.Bool.{Bool, true, false, _&&_}
 use mathlib.Core.List.{List, [], _∷_}
 use Prim.Native.Nat.{ℕ, zero, suc, _≤_, _<_}
@@ -12,12 +12,18 @@ use lib.ListN.{length, getD}
 use Rattle.whole.specs.Sums.{All, any}
 use Rattle.whole.proofs.Sums.{and-left, and-right, and-both, every-all}
 use Rattle.lent.specs.Stages.{refused}
+use Rattle.lent.specs.Answered.{Written}
+use Rattle.lent.proofs.Stages.{same-refusal}
 use Rattle.sheet.proofs.Refusals.{Lawful}
 use Rattle.sheet_form.specs.Numbers.{members}
 use Rattle.sheet_modes.specs.Modes.{readBy}
+use Rattle.outcomes.specs.declared.Wanted.{Wanted}
+use Rattle.outcomes.specs.declared.Wanted.the-variants.{OwnerSets, Owners, Boundary, At}
 use Rattle.demands.specs.Refusals.{Row, alone, rows, inRow, Listed}
-use Rattle.demands.specs.Entries.{Entry, numbers, areas, position, write, writeBlob, ownerSets, owners, boundary, listing, ownerAt, outcomeOf}
+use Rattle.demands.specs.Entries.{Entry, numbers, areas, position, write, writeBlob, ownerSets, owners, boundary, listing, ownerAt, index, indexed, outcomeOf}
 use Rattle.demands.specs.Answers.{Refused, unread, breaks-A, breaks-B, breaks-C, unframed, not-carried, no-ground}
+use Rattle.demands.specs.Index.{without}
+use Rattle.demands.proofs.Index.{index-refuses, same-or-53}
 use Rattle.demands.proofs.Stages.{read-lawful, no-higher, read-limits}
 use Rattle.demands.proofs.Answers.{numbers-refuses, areas-refuses, position-refuses-nothing, write-refuses, write-blob-refuses, owner-sets-refuses, owners-refuses, boundary-refuses, listing-refuses-nothing}
 use Rattle.demands.proofs.Points.{at-refuses}
@@ -99,7 +105,7 @@ alone-listed i h e {code} {item} c z = subst (λ n. Listed n item) (sym c) (in-r
 module _ (mode : ℕ) (s : List ℕ) (all : All (λ b. b < 256) s) where
   unread-listed : (code item : ℕ) → readBy members mode s ≡ refused code item → Listed code item
   unread-listed code item e =
-      ⊎-elim (λ (c, i). alone-listed 22 (omega arith) refl c i)
+      ⊎-elim (λ (c, i). alone-listed 23 (omega arith) refl c i)
       (⊎-elim (λ (c, i). ⊎-elim (λ c. alone-listed 17 (omega arith) refl c i) (λ c. alone-listed 18 (omega arith) refl c i) c) (lawful-listed code item))
       (read-lawful mode s code item e)
 
@@ -114,24 +120,36 @@ module _ (mode : ℕ) (s : List ℕ) (all : All (λ b. b < 256) s) where
 
 -- An entry, in its mode.
 module _ (s : List ℕ) (all : All (λ b. b < 256) s) where
+  -- Those that judge.
+  judged-listed : (mode way : ℕ) (wanted : Wanted) (code item : ℕ) → outcomeOf (without mode way wanted) s ≡ refused code item → Listed code item
+  judged-listed mode way OwnerSets code item q = refused-listed mode s all (owner-sets-refuses mode s all code item .0 q)
+  judged-listed mode way Owners code item q =
+      ⊎-elim (refused-listed mode s all) (⊎-elim (λ h. alone-listed 21 (omega arith) refl (h .0) (h .1)) (λ h. alone-listed 13 (omega arith) refl (h .0) (h .1))) (owners-refuses mode s all way code item .0 q)
+  judged-listed mode way (Boundary k) code item q =
+      ⊎-elim (refused-listed mode s all)
+      (⊎-elim (λ h. alone-listed 15 (omega arith) refl (h .0) (h .1)) (⊎-elim (λ h. alone-listed 21 (omega arith) refl (h .0) (h .1)) (λ h. alone-listed 13 (omega arith) refl (h .0) (h .1))))
+      (boundary-refuses mode s all way k code item .0 q)
+  judged-listed mode way (At x y) code item q =
+      ⊎-elim (refused-listed mode s all)
+      (⊎-elim (λ h. alone-listed 21 (omega arith) refl (h .0) (h .1)) (⊎-elim (λ h. alone-listed 13 (omega arith) refl (h .0) (h .1)) (λ h. alone-listed 22 (omega arith) refl (h .0) (h .1))))
+      (at-refuses mode s all way x y code item .0 q)
+
   pub outcome-listed : (e : Entry) (code item : ℕ) → outcomeOf e s ≡ refused code item → Listed code item
   outcome-listed (numbers mode) code item q = ⊎-elim (unread-listed mode s all code item) (λ h. alone-listed 19 (omega arith) refl (h .0) (h .1)) (numbers-refuses mode s all code item .0 q)
   outcome-listed (areas mode) code item q = ⊎-elim (unread-listed mode s all code item) (λ h. alone-listed 19 (omega arith) refl (h .0) (h .1)) (areas-refuses mode s all code item .0 q)
   outcome-listed (position mode) code item q = absurd (position-refuses-nothing mode s all code item q)
   outcome-listed write code item q = let (c, i, f) = write-refuses s all code item .0 q in alone-listed 16 (omega arith) refl c i
   outcome-listed writeBlob code item q = let (c, i, f) = write-blob-refuses s all code item .0 q in alone-listed 16 (omega arith) refl c i
-  outcome-listed (ownerSets mode) code item q = refused-listed mode s all (owner-sets-refuses mode s all code item .0 q)
-  outcome-listed (owners mode way) code item q =
-      ⊎-elim (refused-listed mode s all) (⊎-elim (λ h. alone-listed 20 (omega arith) refl (h .0) (h .1)) (λ h. alone-listed 13 (omega arith) refl (h .0) (h .1))) (owners-refuses mode s all way code item .0 q)
-  outcome-listed (boundary mode way k) code item q =
-      ⊎-elim (refused-listed mode s all)
-      (⊎-elim (λ h. alone-listed 15 (omega arith) refl (h .0) (h .1)) (⊎-elim (λ h. alone-listed 20 (omega arith) refl (h .0) (h .1)) (λ h. alone-listed 13 (omega arith) refl (h .0) (h .1))))
-      (boundary-refuses mode s all way k code item .0 q)
+  outcome-listed (ownerSets mode) code item q = judged-listed mode 0 OwnerSets code item q
+  outcome-listed (owners mode way) code item q = judged-listed mode way Owners code item q
+  outcome-listed (boundary mode way k) code item q = judged-listed mode way (Boundary k) code item q
   outcome-listed (listing mode way) code item q = absurd (listing-refuses-nothing mode s all way code item q)
-  outcome-listed (ownerAt mode way x y) code item q =
-      ⊎-elim (refused-listed mode s all)
-      (⊎-elim (λ h. alone-listed 20 (omega arith) refl (h .0) (h .1)) (⊎-elim (λ h. alone-listed 13 (omega arith) refl (h .0) (h .1)) (λ h. alone-listed 21 (omega arith) refl (h .0) (h .1))))
-      (at-refuses mode s all way x y code item .0 q)
+  outcome-listed (ownerAt mode way x y) code item q = judged-listed mode way (At x y) code item q
+  outcome-listed (index mode) code item q = refused-listed mode s all (index-refuses mode s code item .0 q .0)
+  outcome-listed (indexed lent mode way wanted) code item q = elim (same-or-53 mode s lent way wanted) [
+    | inl e ↦ judged-listed mode way wanted code item (sym e ∙ q)
+    | inr e ↦ let (c, i) = same-refusal {A = Written} 53 0 code item .0 (sym e ∙ q) in alone-listed 20 (omega arith) refl c i
+  ]
 
 -- The code of an answer that is too long.
 pub short-listed : Listed 40 0

@@ -1,7 +1,7 @@
 -- Request No. 5: "Every reading step shall also tell the byte position it began at, and every refusal with code 1 to 8 that of the field at fault".
 -- The idea: reading is refused exactly if it comes to a place where something is wrong, and what is wrong there has its position. Assumes nothing.
 use mathlib.Core.Path.{_≡_, refl, sym, _∙_, ap, ap₂, subst}
-use mathlib.Core.Logic.{_↔_, _⊎_, inl, inr, ⊎-elim}
+use mathlib.Core.Logic.{_↔_, inl, inr, ⊎-elim}
 use mathlib.Core.Bool.{Bool, true, false}
 use mathlib.Core.List.{List, _++_}
 use mathlib.Core.Option.{Option, none, some, Option·none-ne-some}
@@ -14,18 +14,18 @@ use Rattle.whole.specs.Sums.{All}
 use Rattle.whole.proofs.Sums.{all-take}
 use Rattle.wkb.specs.declared.Cursor.{Cursor}
 use Rattle.wkb.specs.declared.Step.the-variants.{Refused as StepRefused}
-use Rattle.wkb.specs.Steps.{stepAt, toldAt}
+use Rattle.wkb.specs.Steps.{toldAt}
 use Rattle.wkb.specs.Faults.{Fault as StepFault, itemAt}
 use Rattle.lent.specs.Stages.{value, refused}
 use Rattle.lent.proofs.Stages.{value-refused, same-refusal}
-use Rattle.lent.specs.Answered.{Outcome, answerOf}
+use Rattle.lent.specs.Answered.{Written, Outcome, answerOf}
 use Rattle.sheet_form.specs.Numbers.{Sheet, members}
 use Rattle.sheet.specs.Reading.{readingOf}
 use Rattle.sheet.specs.Read.{readSheet}
 use Rattle.sheet.proofs.Run
 use Rattle.sheet_positions.specs.Faults.{FaultIn}
 use Rattle.sheet_positions.proofs.Steps as steps
-use Rattle.sheet_positions.proofs.Exactly.{EndsWith, refused-exactly, within-bytes}
+use Rattle.sheet_positions.proofs.Exactly.{refused-exactly, within-bytes}
 use Rattle.sheet_positions.proofs.Front.{front-read}
 use Rattle.sheet_written.proofs.Held.{read-refused, read-held}
 use Rattle.sheet_blob.specs.declared.Opened.{Opened}
@@ -33,16 +33,19 @@ use Rattle.sheet_blob.specs.declared.Opening.{Opening}
 use Rattle.sheet_blob.specs.declared.Opening.the-variants.{Read, Refused as HeaderRefused}
 use Rattle.sheet_blob.specs.Opening.{openingOf}
 use Rattle.sheet_blob.specs.Faults.{Fault}
-use Rattle.sheet_blob.proofs.Refusals.{begins-within}
-use Rattle.sheet_blob.proofs.Refusals.{refused-exactly as header-refused}
+use Rattle.sheet_blob.proofs.Refusals.{begins-within, refused-exactly as header-refused}
 use Rattle.sheet_modes.specs.Modes.{Form, plain, blob, Mode, modeOf, headed, around, behind, begins, headerBy, readBy, positionIn}
 use Rattle.sheet_modes.proofs.Modes.{all-behind, by-refused, in-mode-refused, mode-unknown}
 use Rattle.sheet_modes.proofs.Outcome.{position-behind, position-of-header}
+use Rattle.outcomes.specs.declared.Wanted.{Wanted}
+use Rattle.outcomes.specs.declared.Wanted.the-variants.{OwnerSets, Owners, Boundary, At}
 use Rattle.outcomes.specs.Entries.{firstOf, formOf, withRoom, telling, sheetPosition}
 use Rattle.outcomes.proofs.Position.{position-refused, nowhere}
 use Rattle.demands.specs.Answers.{OtherEnvelope, Refused, unread, breaks-A, breaks-B, breaks-C, unframed, not-carried, no-ground}
 use Rattle.demands.specs.Positions.{NextAfter, Enough, OfReading, ReadsSheet}
-use Rattle.demands.specs.Entries.{Entry, numbers, areas, position, write, writeBlob, ownerSets, owners, boundary, listing, ownerAt, outcomeOf}
+use Rattle.demands.specs.Entries.{Entry, numbers, areas, position, write, writeBlob, ownerSets, owners, boundary, listing, ownerAt, index, indexed, outcomeOf}
+use Rattle.demands.specs.Index.{without}
+use Rattle.demands.proofs.Index.{index-refuses, before-index, same-or-53}
 use Rattle.demands.proofs.Stages.{not-between, not-above, read-opened}
 use Rattle.demands.proofs.Answers.{numbers-answers, numbers-refuses, areas-refuses, owner-sets-refuses, owners-refuses, boundary-refuses}
 use Rattle.demands.proofs.Points.{at-refuses}
@@ -162,12 +165,32 @@ module _ (mode : ℕ) (s : List ℕ) (all : All (λ b. b < 256) s) (code item : 
   by-reading (not-carried n p r w f) l = absurd (not-between l (omega arith) (omega arith))
   by-reading (no-ground n p r w f) l = absurd (not-between l (omega arith) (omega arith))
 
-  -- 30, 41, 52, 54 and 55 are no codes of reading.
+  -- 20, 21, 30, 41, 52, 53, 54 and 55 are no codes of reading.
   low-other : (c : ℕ) → 9 ≤ c → c ≤ 49 → {X : Type 0} → code ≡ c → X
   low-other c a b e = absurd (not-between of (omega arith) (omega arith))
 
   high-other : (c : ℕ) → 52 ≤ c → c ≤ 56 → {X : Type 0} → code ≡ c → X
   high-other c a b e = absurd (not-above of (omega arith) (omega arith))
+
+  -- Those that judge.
+  same-judged : (way : ℕ) (wanted : Wanted) → (outcomeOf (without mode way wanted) s ≡ refused code item) ↔ (readBy members mode s ≡ refused code item)
+  same-judged way OwnerSets = (
+    λ q. by-reading (owner-sets-refuses mode s all code item .0 q) of,
+    λ e. owner-sets-refuses mode s all code item .1 (unread e),
+  )
+  same-judged way Owners = (
+    λ q. by-reading (⊎-elim (λ f. f) (⊎-elim (λ h. high-other 54 (omega arith) (omega arith) (h .0)) (λ h. low-other 30 (omega arith) (omega arith) (h .0))) (owners-refuses mode s all way code item .0 q)) of,
+    λ e. owners-refuses mode s all way code item .1 (inl (unread e)),
+  )
+  same-judged way (Boundary k) = (
+    λ q. by-reading (⊎-elim (λ f. f) (⊎-elim (λ h. low-other 41 (omega arith) (omega arith) (h .0)) (⊎-elim (λ h. high-other 54 (omega arith) (omega arith) (h .0)) (λ h. low-other 30 (omega arith) (omega arith) (h .0)))) (boundary-refuses mode s all way k code item .0 q)) of,
+    λ e. boundary-refuses mode s all way k code item .1 (inl (unread e)),
+  )
+  same-judged way (At x y) = (
+    λ q. by-reading (⊎-elim (λ f. f)
+        (⊎-elim (λ h. high-other 54 (omega arith) (omega arith) (h .0)) (⊎-elim (λ h. low-other 30 (omega arith) (omega arith) (h .0)) (λ h. high-other 55 (omega arith) (omega arith) (h .0)))) (at-refuses mode s all way x y code item .0 q)) of,
+    λ e. at-refuses mode s all way x y code item .1 (inl (unread e)),
+  )
 
   pub same-in-all : (e : Entry) → ReadsSheet mode e → (outcomeOf e s ≡ refused code item) ↔ (readBy members mode s ≡ refused code item)
   same-in-all (numbers m) r = subst (λ k. (outcomeOf (numbers k) s ≡ refused code item) ↔ (readBy members mode s ≡ refused code item)) (sym r) (
@@ -181,23 +204,21 @@ module _ (mode : ℕ) (s : List ℕ) (all : All (λ b. b < 256) s) (code item : 
   same-in-all (position m) r = absurd r
   same-in-all write r = absurd r
   same-in-all writeBlob r = absurd r
-  same-in-all (ownerSets m) r = subst (λ k. (outcomeOf (ownerSets k) s ≡ refused code item) ↔ (readBy members mode s ≡ refused code item)) (sym r) (
-    λ q. by-reading (owner-sets-refuses mode s all code item .0 q) of,
-    λ e. owner-sets-refuses mode s all code item .1 (unread e),
-  )
-  same-in-all (owners m way) r = subst (λ k. (outcomeOf (owners k way) s ≡ refused code item) ↔ (readBy members mode s ≡ refused code item)) (sym r) (
-    λ q. by-reading (⊎-elim (λ f. f) (⊎-elim (λ h. high-other 54 (omega arith) (omega arith) (h .0)) (λ h. low-other 30 (omega arith) (omega arith) (h .0))) (owners-refuses mode s all way code item .0 q)) of,
-    λ e. owners-refuses mode s all way code item .1 (inl (unread e)),
-  )
-  same-in-all (boundary m way k) r = subst (λ z. (outcomeOf (boundary z way k) s ≡ refused code item) ↔ (readBy members mode s ≡ refused code item)) (sym r) (
-    λ q. by-reading (⊎-elim (λ f. f) (⊎-elim (λ h. low-other 41 (omega arith) (omega arith) (h .0)) (⊎-elim (λ h. high-other 54 (omega arith) (omega arith) (h .0)) (λ h. low-other 30 (omega arith) (omega arith) (h .0)))) (boundary-refuses mode s all way k code item .0 q)) of,
-    λ e. boundary-refuses mode s all way k code item .1 (inl (unread e)),
-  )
+  same-in-all (ownerSets m) r = subst (λ k. (outcomeOf (ownerSets k) s ≡ refused code item) ↔ (readBy members mode s ≡ refused code item)) (sym r) (same-judged 0 OwnerSets)
+  same-in-all (owners m way) r = subst (λ k. (outcomeOf (owners k way) s ≡ refused code item) ↔ (readBy members mode s ≡ refused code item)) (sym r) (same-judged way Owners)
+  same-in-all (boundary m way k) r = subst (λ z. (outcomeOf (boundary z way k) s ≡ refused code item) ↔ (readBy members mode s ≡ refused code item)) (sym r) (same-judged way (Boundary k))
   same-in-all (listing m way) r = absurd r
-  same-in-all (ownerAt m way x y) r = subst (λ k. (outcomeOf (ownerAt k way x y) s ≡ refused code item) ↔ (readBy members mode s ≡ refused code item)) (sym r) (
-    λ q. by-reading (⊎-elim (λ f. f)
-        (⊎-elim (λ h. high-other 54 (omega arith) (omega arith) (h .0)) (⊎-elim (λ h. low-other 30 (omega arith) (omega arith) (h .0)) (λ h. high-other 55 (omega arith) (omega arith) (h .0)))) (at-refuses mode s all way x y code item .0 q)) of,
-    λ e. at-refuses mode s all way x y code item .1 (inl (unread e)),
+  same-in-all (ownerAt m way x y) r = subst (λ k. (outcomeOf (ownerAt k way x y) s ≡ refused code item) ↔ (readBy members mode s ≡ refused code item)) (sym r) (same-judged way (At x y))
+  same-in-all (index m) r = subst (λ k. (outcomeOf (index k) s ≡ refused code item) ↔ (readBy members mode s ≡ refused code item)) (sym r) (
+    λ q. by-reading (index-refuses mode s code item .0 q .0) of,
+    λ e. index-refuses mode s code item .1 (unread e, λ z. low-other 20 (omega arith) (omega arith) z, λ z. low-other 21 (omega arith) (omega arith) z),
+  )
+  same-in-all (indexed lent m way wanted) r = subst (λ k. (outcomeOf (indexed lent k way wanted) s ≡ refused code item) ↔ (readBy members mode s ≡ refused code item)) (sym r) (
+    λ q. elim (same-or-53 mode s lent way wanted) [
+      | inl e ↦ same-judged way wanted .0 (sym e ∙ q)
+      | inr e ↦ high-other 53 (omega arith) (omega arith) (same-refusal {A = Written} 53 0 code item .0 (sym e ∙ q) .0)
+    ],
+    λ e. before-index mode s lent way wanted code item (index-refuses mode s code item .1 (unread e, λ z. low-other 20 (omega arith) (omega arith) z, λ z. low-other 21 (omega arith) (omega arith) z)),
   )
 
 -- And in a known mode, behind what stands around the sheet, reading is refused as document 01's is.

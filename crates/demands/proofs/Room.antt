@@ -18,8 +18,8 @@ use Rattle.whole.proofs.Sums.{all-++}
 use Rattle.plane.specs.Points.{Edge}
 use Rattle.plane.specs.Members.{doubleArea}
 use Rattle.lent.specs.Stages.{value, refused}
-use Rattle.lent.specs.Answered.{Outcome, bytes, answerOf, Answered}
-use Rattle.lent.proofs.Stages.{value-refused}
+use Rattle.lent.specs.Answered.{Written, Outcome, bytes, answerOf, Answered}
+use Rattle.lent.proofs.Stages.{value-refused, same-refusal}
 use Rattle.lent_little.specs.Ordered.{bytes as bytesOf}
 use Rattle.lent_little.specs.Bytes.{setBytes, sideBytes}
 use Rattle.lent_little.proofs.Bytes.{set-length, all-length}
@@ -38,10 +38,15 @@ use Rattle.sheet_written.proofs.Held.{read-sheet-is}
 use Rattle.sheet_written.proofs.Largest.{largest, largest-fits, largest-numbers, largest-written}
 use Rattle.sheet_written.proofs.Sized.{written-small}
 use Rattle.sheet_written.proofs.Trip.{written-bytes, round-trip, form-small}
+use Rattle.outcomes.specs.declared.Wanted.{Wanted}
+use Rattle.outcomes.specs.declared.Wanted.the-variants.{OwnerSets, Owners, Boundary, At}
 use Rattle.outcomes.specs.Entries.{firstOf, formOf, i64, ownedSides}
 use Rattle.outcomes.proofs.Sized.{line-most, listing-most, sides-most}
 use Rattle.demands.specs.Answers.{Refused, unread, breaks-A, breaks-B, breaks-C, unframed, not-carried, no-ground}
-use Rattle.demands.specs.Entries.{Entry, numbers, areas, position, write, writeBlob, ownerSets, owners, boundary, listing, ownerAt, outcomeOf, roomOf}
+use Rattle.demands.specs.Entries.{Entry, numbers, areas, position, write, writeBlob, ownerSets, owners, boundary, listing, ownerAt, index, indexed, outcomeOf, roomOf}
+use Rattle.demands.specs.Index.{without}
+use Rattle.demands.proofs.Neighbours.{six-each}
+use Rattle.demands.proofs.Index.{index-answers, index-refuses, same-or-53}
 use Rattle.demands.proofs.Stages.{of-reading, not-between, read-limits}
 use Rattle.demands.proofs.Envelopes.{no-envelope}
 use Rattle.demands.proofs.Sets.{with-owners, owners-each}
@@ -88,21 +93,51 @@ module _ (mode : ℕ) (s : List ℕ) (all : All (λ b. b < 256) s) where
   refused-other (no-ground n p r w f) z = omega arith
 
 module _ (s : List ℕ) (all : All (λ b. b < 256) s) where
+  judged-not-forty : (mode way : ℕ) (wanted : Wanted) (code item : ℕ) → outcomeOf (without mode way wanted) s ≡ refused code item → code ≡ 40 → ⊥
+  judged-not-forty mode way OwnerSets code item q z = refused-other mode s all (owner-sets-refuses mode s all code item .0 q) z
+  judged-not-forty mode way Owners code item q z = ⊎-elim (λ r. refused-other mode s all r z) (⊎-elim (λ h. omega (arith, h .0)) (λ h. omega (arith, h .0))) (owners-refuses mode s all way code item .0 q)
+  judged-not-forty mode way (Boundary k) code item q z =
+      ⊎-elim (λ r. refused-other mode s all r z) (⊎-elim (λ h. omega (arith, h .0)) (⊎-elim (λ h. omega (arith, h .0)) (λ h. omega (arith, h .0)))) (boundary-refuses mode s all way k code item .0 q)
+  judged-not-forty mode way (At x y) code item q z =
+      ⊎-elim (λ r. refused-other mode s all r z) (⊎-elim (λ h. omega (arith, h .0)) (⊎-elim (λ h. omega (arith, h .0)) (λ h. omega (arith, h .0)))) (at-refuses mode s all way x y code item .0 q)
+
   not-forty : (e : Entry) (code item : ℕ) → outcomeOf e s ≡ refused code item → code ≡ 40 → ⊥
   not-forty (numbers mode) code item q z = ⊎-elim (λ p. unread-other mode s all code item p z) (λ h. omega (arith, h .0)) (numbers-refuses mode s all code item .0 q)
   not-forty (areas mode) code item q z = ⊎-elim (λ p. unread-other mode s all code item p z) (λ h. omega (arith, h .0)) (areas-refuses mode s all code item .0 q)
   not-forty (position mode) code item q z = position-refuses-nothing mode s all code item q
   not-forty write code item q z = omega (arith, write-refuses s all code item .0 q .0)
   not-forty writeBlob code item q z = omega (arith, write-blob-refuses s all code item .0 q .0)
-  not-forty (ownerSets mode) code item q z = refused-other mode s all (owner-sets-refuses mode s all code item .0 q) z
-  not-forty (owners mode way) code item q z = ⊎-elim (λ r. refused-other mode s all r z) (⊎-elim (λ h. omega (arith, h .0)) (λ h. omega (arith, h .0))) (owners-refuses mode s all way code item .0 q)
-  not-forty (boundary mode way k) code item q z =
-      ⊎-elim (λ r. refused-other mode s all r z) (⊎-elim (λ h. omega (arith, h .0)) (⊎-elim (λ h. omega (arith, h .0)) (λ h. omega (arith, h .0)))) (boundary-refuses mode s all way k code item .0 q)
+  not-forty (ownerSets mode) code item q z = judged-not-forty mode 0 OwnerSets code item q z
+  not-forty (owners mode way) code item q z = judged-not-forty mode way Owners code item q z
+  not-forty (boundary mode way k) code item q z = judged-not-forty mode way (Boundary k) code item q z
   not-forty (listing mode way) code item q z = listing-refuses-nothing mode s all way code item q
-  not-forty (ownerAt mode way x y) code item q z =
-      ⊎-elim (λ r. refused-other mode s all r z) (⊎-elim (λ h. omega (arith, h .0)) (⊎-elim (λ h. omega (arith, h .0)) (λ h. omega (arith, h .0)))) (at-refuses mode s all way x y code item .0 q)
+  not-forty (ownerAt mode way x y) code item q z = judged-not-forty mode way (At x y) code item q z
+  not-forty (index mode) code item q z = refused-other mode s all (index-refuses mode s code item .0 q .0) z
+  not-forty (indexed lent mode way wanted) code item q z = elim (same-or-53 mode s lent way wanted) [
+    | inl e ↦ judged-not-forty mode way wanted code item (sym e ∙ q) z
+    | inr e ↦ omega (arith, same-refusal {A = Written} 53 0 code item .0 (sym e ∙ q) .0)
+  ]
 
   -- ---- how long the answers are at most
+  judged-fits : (mode way : ℕ) (wanted : Wanted) (item : ℕ) (l : List ℕ) → outcomeOf (without mode way wanted) s ≡ bytes item l → length l ≤ roomOf (without mode way wanted)
+  judged-fits mode way OwnerSets item l q =
+      let (n, sets, h, e, i) = owner-sets-answers mode s all item l .0 q in
+      omega (arith, ap length e, all-length 8 setBytes set-length sets, h .each, read-limits mode s all n (h .read) .few)
+  judged-fits mode way Owners item l q =
+      let (n, sets, h, known, p, i) = owners-answers mode s all way item l .0 q in
+      omega (arith, p .0 .each, owners-each h, read-limits mode s all n (h .read) .few)
+  judged-fits mode way (Boundary k) item l q =
+      let (n, sets, h, on, known, o, p, e, i) = boundary-answers mode s all way k item l .0 q in
+      omega (arith, ap length e, sides-length (ownedSides n k o), sides-most n k o, read-limits mode s all n (h .read) .few)
+  judged-fits mode way (At x y) item l q = let (n, sets, h, known, o, p, k, t, i, e) = at-answers mode s all way x y item l .0 q in omega (arith, ap length e)
+
+  -- An entry has the same room with an index as without.
+  same-room : (lent : List ℕ) (mode way : ℕ) (wanted : Wanted) → roomOf (indexed lent mode way wanted) ≡ roomOf (without mode way wanted)
+  same-room lent mode way OwnerSets = refl
+  same-room lent mode way Owners = refl
+  same-room lent mode way (Boundary k) = refl
+  same-room lent mode way (At x y) = refl
+
   pub fits : (e : Entry) (item : ℕ) (l : List ℕ) → outcomeOf e s ≡ bytes item l → length l ≤ roomOf e
   fits (numbers mode) item l q =
       let (n, r, o, e, i) = numbers-answers mode s all item l .0 q in
@@ -114,19 +149,20 @@ module _ (s : List ℕ) (all : All (λ b. b < 256) s) where
   fits (position mode) item l q = omega (arith, position-answers mode s all item l q .1)
   fits write item l q = let (n, t, f, e, i) = write-answers s all item l .0 q in omega (arith, ap length e, written-small members n t)
   fits writeBlob item l q = let (b, t, k, f, e, i) = write-blob-answers s all item l .0 q in omega (arith, ap length e, blob-length b, written-small members (b .sheet) t)
-  fits (ownerSets mode) item l q =
-      let (n, sets, h, e, i) = owner-sets-answers mode s all item l .0 q in
-      omega (arith, ap length e, all-length 8 setBytes set-length sets, h .each, read-limits mode s all n (h .read) .few)
-  fits (owners mode way) item l q =
-      let (n, sets, h, known, p, i) = owners-answers mode s all way item l .0 q in
-      omega (arith, p .0 .each, owners-each h, read-limits mode s all n (h .read) .few)
-  fits (boundary mode way k) item l q =
-      let (n, sets, h, on, known, o, p, e, i) = boundary-answers mode s all way k item l .0 q in
-      omega (arith, ap length e, sides-length (ownedSides n k o), sides-most n k o, read-limits mode s all n (h .read) .few)
+  fits (ownerSets mode) item l q = judged-fits mode 0 OwnerSets item l q
+  fits (owners mode way) item l q = judged-fits mode way Owners item l q
+  fits (boundary mode way k) item l q = judged-fits mode way (Boundary k) item l q
   fits (listing mode way) item l q =
       ⊎-elim (λ (n, o, h, e). omega (arith, ap length e, listing-most way (with-owners n o) (omega (arith, read-limits mode s all n (h .read) .few-polygons)))) (λ (code, k, r, e). omega (arith, ap length e, line-most refusedWord code (pos k)))
       (listing-answers mode s all way item l .0 q .1)
-  fits (ownerAt mode way x y) item l q = let (n, sets, h, known, o, p, k, t, i, e) = at-answers mode s all way x y item l .0 q in omega (arith, ap length e)
+  fits (ownerAt mode way x y) item l q = judged-fits mode way (At x y) item l q
+  fits (index mode) item l q =
+      let (n, r, p, o, e, i) = index-answers mode s item l .0 q in
+      omega (arith, ap length e, six-each (n .table), read-limits mode s all n r .few)
+  fits (indexed lent mode way wanted) item l q = elim (same-or-53 mode s lent way wanted) [
+    | inl e ↦ omega (arith, same-room lent mode way wanted, judged-fits mode way wanted item l (sym e ∙ q))
+    | inr e ↦ absurd (value-refused _ 53 0 (sym q ∙ e))
+  ]
 
   -- ---- a call that comes to what the entry comes to, answered r and left the lent bytes as `after`
   module _ (e : Entry) (before : List ℕ) (r : ℕ) (after : List ℕ) (a : Answered (outcomeOf e s) before r after) where

@@ -127,7 +127,7 @@ any-among p l = (to l, from)
         go false n = absurd (counted sameEdge sameEdge-eq sameEdge-refl (λ a. T (p a) → ⊥) e l m (n (λ f. f)) t)
 
 -- A pair stands among the sides of what was seen exactly if it is a side of a triangle seen.
-sided : (e : Edge) (t : Triangle) (l : List Triangle) → count sameEdge e (sidesOf (t ∷ l)) ≡ count sameEdge e (sides t) + count sameEdge e (sidesOf l)
+pub sided : (e : Edge) (t : Triangle) (l : List Triangle) → count sameEdge e (sidesOf (t ∷ l)) ≡ count sameEdge e (sides t) + count sameEdge e (sidesOf l)
 unfolding flatMap
 sided e t l = count-++ sameEdge sameEdge-eq sameEdge-refl e (sides t) (flatMap sides l)
 

@@ -1,14 +1,16 @@
 -- The entries as one list, so that a promise to all of them is said once.
-use mathlib.Core.Bool.{cond}
+use mathlib.Core.Bool.{true, cond}
 use mathlib.Core.List.{List}
 use Prim.Native.Nat.{ℕ}
 use lib.Dec.{leb}
 use lib.IntN.{ℤ}
 use Rattle.lent.specs.Answered.{Outcome}
-use Rattle.outcomes.specs.Entries.{sheetNumbersBy, sheetAreas, sheetPosition, sheetWrite, sheetWriteBlob, sheetOwnerSetsBy, sheetOwnersBy, sheetBoundaryBy, sheetListingBy, sheetAt}
+use Rattle.outcomes.specs.declared.Wanted.{Wanted}
+use Rattle.outcomes.specs.declared.Wanted.the-variants.{OwnerSets, Owners, Boundary, At}
+use Rattle.outcomes.specs.Entries.{sheetNumbersBy, sheetAreas, sheetPosition, sheetWrite, sheetWriteBlob, sheetOwnerSetsBy, sheetOwnersBy, sheetBoundaryBy, sheetListingBy, sheetAt, sheetIndex, answerTo}
 
 -- An entry, with what is asked of it besides the bytes: the mode of reading, the way to fill gaps, for the boundary entry a polygon by its number, and for the entry at a point its x and y. The entries
--- that take no mode and no way are those in mode 0 and way 0.
+-- that take no mode and no way are those in mode 0 and way 0. The entries with an index are one, by what is wanted; the set entry has way 0.
 pub data Entry : Type 0 where
   numbers : (mode : ℕ) → Entry
   areas : (mode : ℕ) → Entry
@@ -20,6 +22,8 @@ pub data Entry : Type 0 where
   boundary : (mode way polygon : ℕ) → Entry
   listing : (mode way : ℕ) → Entry
   ownerAt : (mode way : ℕ) (x y : ℤ) → Entry
+  index : (mode : ℕ) → Entry
+  indexed : (lent : List ℕ) (mode way : ℕ) (wanted : Wanted) → Entry
 
 -- What the entry comes to for the bytes that it is given.
 abbrev pub outcomeOf : Entry → List ℕ → Outcome
@@ -33,6 +37,8 @@ outcomeOf (owners mode way) s = sheetOwnersBy mode way s
 outcomeOf (boundary mode way polygon) s = sheetBoundaryBy mode way polygon s
 outcomeOf (listing mode way) s = sheetListingBy mode way s
 outcomeOf (ownerAt mode way x y) s = sheetAt mode way x y s
+outcomeOf (index mode) s = sheetIndex mode s
+outcomeOf (indexed lent mode way wanted) s = answerTo (record { mode = mode; way = way; wanted = wanted; indexed = true }) lent s
 
 -- The room of an entry: lent so many bytes, it never answers 40. A blob's numbers have one more than a sheet's, 4 bytes. What is at a point needs none.
 abbrev pub roomOf : Entry → ℕ
@@ -46,3 +52,8 @@ roomOf (owners mode way) = 1_024
 roomOf (boundary mode way polygon) = 49_152
 roomOf (listing mode way) = 6_600
 roomOf (ownerAt mode way x y) = 0
+roomOf (index mode) = 6_144
+roomOf (indexed lent mode way OwnerSets) = 8_192
+roomOf (indexed lent mode way Owners) = 1_024
+roomOf (indexed lent mode way (Boundary polygon)) = 49_152
+roomOf (indexed lent mode way (At x y)) = 0

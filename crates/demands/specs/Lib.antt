@@ -1,5 +1,5 @@
--- What the demands speak of: document 01's table of refusals, the entries, the triangle or polygon that a sheet is refused for, and what the
--- entries go by.
+-- What the demands speak of: document 01's table of refusals, the entries, the triangle or polygon that a sheet is refused for, what the
+-- entries go by, and the index.
 pub mod Refusals
 pub mod Entries
 pub mod Positions
@@ -8,3 +8,4 @@ pub mod Polygons
 pub mod Answers
 pub mod Blobs
 pub mod Points
+pub mod Index

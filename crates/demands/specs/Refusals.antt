@@ -1,4 +1,4 @@
--- Document 01's table "Refusal numbers", with 50, 51 and 52 of request No. 1, 21 of No. 2, 54 of No. 7, 55 of No. 8 and 57 of No. 10, row by row.
+-- Document 01's table "Refusal numbers", with 50, 51 and 52 of request No. 1, 21 of No. 2, 53 of No. 6, 54 of No. 7, 55 of No. 8 and 57 of No. 10, row by row.
 use mathlib.Core.Bool.{Bool, _&&_}
 use mathlib.Core.List.{List, [], _∷_}
 use Prim.Native.Nat.{ℕ}
@@ -28,7 +28,7 @@ withPolygon code = record { code = code; from = 1; to = 64 }
 -- 5 not a coordinate, 6 a ring's last point differs from its first, 7 bytes after the sheet, 8 a collection at depth 5; 10 rule A, 11 rule B,
 -- 12 rule C; 20 not carried, 21 no ground; 30 repair can't be done; 40 the answer is longer than the lent bytes, 41 asked member isn't on the sheet,
 -- 42 numbers given to the writer break a limit, range or closing, or don't make up a whole sheet; 50 not a blob, 51 an envelope kind of 2 to 7, 52 an envelope
--- that isn't the frame; 54 an unknown way to fill gaps; 55 a point that belongs to no triangle; 57 an unknown mode.
+-- that isn't the frame, 53 an index that isn't the table's own; 54 an unknown way to fill gaps; 55 a point that belongs to no triangle; 57 an unknown mode.
 abbrev pub rows : List Row
 rows =
     withMember 1
@@ -51,6 +51,7 @@ rows =
     ∷ alone 50
     ∷ alone 51
     ∷ alone 52
+    ∷ alone 53
     ∷ alone 54
     ∷ alone 55
     ∷ alone 57

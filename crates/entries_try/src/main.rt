@@ -92,6 +92,42 @@ fn at(input: &[u8]) -> u64 {
     )
 }
 
+// What the index entry answers; the mode stands before the sheet, as a little-endian u32.
+fn index(input: &[u8], lent: &mut [u8]) -> u64 {
+    if input.len() < 4 {
+        return 255;
+    }
+    sheets::sheet_index(&input[4..], number(input, 0) as u32, lent)
+}
+
+// What the entries with an index answer: 16 owner sets, 17 owners, 18 boundary.
+fn with_index(entry: u8, asked: &[u8], index: &[u8], sheet: &[u8], lent: &mut [u8]) -> u64
+    requires { ⌜ 12 ≤ length (now asked) ⌝ }
+{
+    let mode = number(asked, 0) as u32;
+    let way = number(asked, 4) as u32;
+    let polygon = number(asked, 8) as u32;
+    match entry {
+        16 => sheets::sheet_owner_sets_indexed(sheet, index, mode, lent),
+        17 => sheets::sheet_owners_indexed(sheet, index, mode, way, lent),
+        18 => sheets::sheet_boundary_indexed(sheet, index, mode, way, polygon, lent),
+        _ => 255,
+    }
+}
+
+// The same; the mode, the way, the number of the polygon and the length of the index stand before the index, each as a little-endian u32, and behind it the sheet.
+fn indexed(entry: u8, input: &[u8], lent: &mut [u8]) -> u64 {
+    if input.len() < 16 {
+        return 255;
+    }
+    let size = number(input, 12);
+    let rest = &input[16..];
+    if rest.len() < size {
+        return 255;
+    }
+    with_index(entry, input, &rest[..size], &rest[size..], lent)
+}
+
 // What the entries answer that take what is asked as numbers: 7 numbers, 8 owner sets, 9 owners, 10 boundary, 11 listing. The mode, the way and the number of
 // the polygon stand before the sheet, each as a little-endian u32, also where the entry doesn't take it.
 fn by(entry: u8, input: &[u8], lent: &mut [u8]) -> u64 {
@@ -112,7 +148,7 @@ fn by(entry: u8, input: &[u8], lent: &mut [u8]) -> u64 {
 }
 
 // What the entry answers: 0 numbers, 1 write, 2 owner sets, 3 owners, 4 boundary, 5 listing, 6 position, 7 to 11 those by a mode and a way, 12 write blob, 13 areas, 14 at a
-// point. Any other answers 255, a code that no entry gives.
+// point, 15 index, 16 to 18 those with an index. Any other answers 255, a code that no entry gives.
 fn answer(entry: u8, input: &[u8], lent: &mut [u8]) -> u64 {
     match entry {
         0 => sheets::sheet_numbers(input, lent),
@@ -125,6 +161,10 @@ fn answer(entry: u8, input: &[u8], lent: &mut [u8]) -> u64 {
         12 => sheets::sheet_write_blob(input, lent),
         13 => areas(input, lent),
         14 => at(input),
+        15 => index(input, lent),
+        16 => indexed(entry, input, lent),
+        17 => indexed(entry, input, lent),
+        18 => indexed(entry, input, lent),
         _ => by(entry, input, lent),
     }
 }

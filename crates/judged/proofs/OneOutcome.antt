@@ -3,6 +3,7 @@
 -- by its owners. Assumes nothing.
 use mathlib.Core.Path.{_≡_, refl, sym, _∙_, ap, subst}
 use mathlib.Core.List.{List, [], _∷_, map}
+use mathlib.Core.Option.{Option}
 use Prim.Native.Nat.{ℕ, zero, suc, _*_}
 use lib.ListN.{length, take, length-map}
 use Rattle.plane.specs.Corners.{millimetres}
@@ -14,7 +15,7 @@ use Rattle.owners_marks.specs.Marks.{setOf}
 use Rattle.sheet_form.specs.Numbers.{numbersOf}
 use Rattle.judged_sets.specs.declared.Owning.{Owning}
 use Rattle.judged_sets.specs.declared.Owning.the-variants.{Sets, Refused}
-use Rattle.judged.specs.Judged.{Judged, judgedSheet}
+use Rattle.judged.specs.Judged.{Judged, judgedWith}
 use Rattle.sheet_older.proofs.Sheets.{same-held}
 use Rattle.judged.specs.Held.{JudgedHeld, JudgedAs}
 
@@ -31,8 +32,8 @@ record Fronts (j : Judged) (t : ℕ) (numbers opposite l : List ℕ) : Type 0 wh
   crossed : take (3 * t) opposite ≡ opposites (sidesOf (j .sheet .table))
   owned : take t l ≡ map setOf (j .owners)
 
-module _ (mode : ℕ) (s : List ℕ) (j : Judged) (comes : judgedSheet mode s ≡ value j) where
-  fronts : {t : ℕ} {numbers opposite l : List ℕ} → JudgedAs mode s (Sets t) numbers opposite l → Fronts j t numbers opposite l
+module _ (index : Option (List ℕ)) (mode : ℕ) (s : List ℕ) (j : Judged) (comes : judgedWith index mode s ≡ value j) where
+  fronts : {t : ℕ} {numbers opposite l : List ℕ} → JudgedAs index mode s (Sets t) numbers opposite l → Fronts j t numbers opposite l
   fronts {t} {numbers} {opposite} {l} (i, e, many, w) = let q : value i ≡ value j = sym e ∙ comes in let same : i ≡ j = cc in subst (λ i. Fronts i t numbers opposite l) same (record {
     many = sym many;
     held =
@@ -42,21 +43,21 @@ module _ (mode : ℕ) (s : List ℕ) (j : Judged) (comes : judgedSheet mode s �
     owned = w .sets-are;
   })
 
-module _ (mode : ℕ) (s numbers opposite l numbers′ opposite′ l′ : List ℕ) where
-  same-answer : (r r′ : Owning) → JudgedAs mode s r numbers opposite l → JudgedAs mode s r′ numbers′ opposite′ l′ → r ≡ r′
-  same-answer (Sets t) (Sets t′) p q = ap Sets (fronts mode s (p .0) (p .1) p .many ∙ sym (fronts mode s (p .0) (p .1) q .many))
+module _ (index : Option (List ℕ)) (mode : ℕ) (s numbers opposite l numbers′ opposite′ l′ : List ℕ) where
+  same-answer : (r r′ : Owning) → JudgedAs index mode s r numbers opposite l → JudgedAs index mode s r′ numbers′ opposite′ l′ → r ≡ r′
+  same-answer (Sets t) (Sets t′) p q = ap Sets (fronts index mode s (p .0) (p .1) p .many ∙ sym (fronts index mode s (p .0) (p .1) q .many))
   same-answer (Sets t) (Refused code item) p q = absurd (value-refused (p .0) code item (sym (p .1) ∙ q))
   same-answer (Refused code item) (Sets t) p q = absurd (value-refused (q .0) code item (sym (q .1) ∙ p))
   same-answer (Refused code item) (Refused code′ item′) p q = let (c, i) = same-refusal {A = Judged} code item code′ item′ .0 (sym p ∙ q) in λ k. Refused (sym c k) (sym i k)
 
   -- The answers are the same. Where the bytes come to a judged sheet, as many numbers as it has, the reverses of its sides and its owner sets are the same too.
-  pub one-outcome : (r r′ : Owning) → JudgedAs mode s r numbers opposite l → JudgedAs mode s r′ numbers′ opposite′ l′
-      → (r ≡ r′) × ((t : ℕ) (j : Judged) → r ≡ Sets t → judgedSheet mode s ≡ value j
+  pub one-outcome : (r r′ : Owning) → JudgedAs index mode s r numbers opposite l → JudgedAs index mode s r′ numbers′ opposite′ l′
+      → (r ≡ r′) × ((t : ℕ) (j : Judged) → r ≡ Sets t → judgedWith index mode s ≡ value j
       → (take (length (numbersOf (j .sheet))) numbers ≡ take (length (numbersOf (j .sheet))) numbers′) × (take (3 * t) opposite ≡ take (3 * t) opposite′) × (take t l ≡ take t l′))
   one-outcome r r′ p q = (
     same-answer r r′ p q,
     λ t j e c.
-        let a = fronts mode s j c (subst (λ r. JudgedAs mode s r numbers opposite l) e p) in
-        let b = fronts mode s j c (subst (λ r. JudgedAs mode s r numbers′ opposite′ l′) (sym (same-answer r r′ p q) ∙ e) q) in
+        let a = fronts index mode s j c (subst (λ r. JudgedAs index mode s r numbers opposite l) e p) in
+        let b = fronts index mode s j c (subst (λ r. JudgedAs index mode s r numbers′ opposite′ l′) (sym (same-answer r r′ p q) ∙ e) q) in
         (same-held (take (length (numbersOf (j .sheet))) numbers) (take (length (numbersOf (j .sheet))) numbers′) (a .held ∙ sym (b .held)), a .crossed ∙ sym (b .crossed), a .owned ∙ sym (b .owned)),
   )

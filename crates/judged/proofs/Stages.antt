@@ -3,6 +3,7 @@ use mathlib.Core.Path.{_≡_, refl, sym, _∙_, ap, subst}
 use mathlib.Core.Logic.{_↔_, _⊎_, inl, inr}
 use mathlib.Core.Bool.{Bool, true, false}
 use mathlib.Core.List.{List}
+use mathlib.Core.Option.{Option}
 use Prim.Native.Nat.{ℕ}
 use lib.ListN.{length}
 use Rattle.lent.specs.Stages.{Answer, value, refused, andThen}
@@ -10,12 +11,13 @@ use Rattle.lent.proofs.Stages.{value-refused, same-refusal, chain-value, chain-
 use Rattle.plane.specs.Points.{Triangle}
 use Rattle.plane.specs.Members.{Member}
 use Rattle.table.specs.Table.{frameEdges, checkTable}
+use Rattle.table_neighbours.specs.Neighbours.{indexed}
 use Rattle.owners_marks.specs.Marks.{ownersFrom}
 use Rattle.owners.specs.Owners.{judgeFrom, judgePolygons}
 use Rattle.sheet_form.specs.Numbers.{Sheet, members}
 use Rattle.sheet_modes.specs.Modes.{readBy, headerBy, framed}
-use Rattle.judged.specs.Judged.{Judged, matched, checkFramed, judgeFramed, judgedSheet}
-use Rattle.judged.specs.Held.{judgeSheet}
+use Rattle.judged.specs.Judged.{Judged, matched, checkFramed, judgeIndexed, judgedWith, judgedSheet}
+use Rattle.judged.specs.Held.{judgeFramed, judgeSheet}
 
 -- The stage of the table rules.
 abbrev pub checked : Sheet → Answer (Unit {0})
@@ -85,7 +87,7 @@ module _ (whole : Bool) (n : Sheet) where
   -- A sheet is judged exactly if its table passes, its envelope is the frame, and its polygons have owners.
   pub framed-judged : (j : Judged)
       → (judgeFramed whole n ≡ value j) ↔ ((j .sheet ≡ n) × (checked n ≡ value tt) × (whole ≡ true) × (judgePolygons (n .table) (n .polygons) ≡ value (j .owners)))
-  unfolding judgeFramed
+  unfolding judgeIndexed
   framed-judged j = (to, from)
     where
       to : andThen (checkFramed whole n) polygons ≡ value j → (j .sheet ≡ n) × (checked n ≡ value tt) × (whole ≡ true) × (judgePolygons (n .table) (n .polygons) ≡ value (j .owners))
@@ -105,7 +107,7 @@ module _ (whole : Bool) (n : Sheet) where
   -- It is refused by the table rules, or, where they pass, by its envelope, or else by a polygon.
   pub sheet-refused : (code item : ℕ)
       → (judgeFramed whole n ≡ refused code item) ↔ ((checked n ≡ refused code item) ⊎ (Unframed code item ⊎ ((checked n ≡ value tt) × (whole ≡ true) × (judgeFrom (n .table) 1 (n .polygons) ≡ refused code item))))
-  unfolding judgeFramed
+  unfolding judgeIndexed
   sheet-refused code item = (to, from)
     where
       Said : Type 0
@@ -138,6 +140,39 @@ envelope-value whole n j = (
   λ (e, b). ap (λ w. judgeFramed w n) b ∙ e,
 )
 
+-- ---- with an index that is lent, or none
+module _ (index : Option (List ℕ)) (whole : Bool) (n : Sheet) where
+  abbrev then-index : Unit {0} → Answer Judged
+  then-index u = andThen (indexed index (n .table)) (polygons whole n)
+
+  -- With an index a sheet is judged as without, where the index passes.
+  pub indexed-value : (j : Judged) → (judgeIndexed index whole n ≡ value j) ↔ ((judgeFramed whole n ≡ value j) × (indexed index (n .table) ≡ value tt))
+  unfolding judgeIndexed
+  indexed-value j = (
+    λ e.
+        let (u, p, q) = chain-value (checkFramed whole n) then-index j .0 e in
+        let (v, i, r) = chain-value (indexed index (n .table)) (polygons whole n) j .0 q in
+        (chain-value (checkFramed whole n) (polygons whole n) j .1 (tt, p, r), i),
+    λ (e, i).
+        let (u, p, q) = chain-value (checkFramed whole n) (polygons whole n) j .0 e in
+        chain-value (checkFramed whole n) then-index j .1 (tt, p, chain-value (indexed index (n .table)) (polygons whole n) j .1 (tt, i, q)),
+  )
+
+  -- It is refused before the index is looked at, or, where nothing is, for the index, or else by a polygon.
+  pub indexed-refused : (code item : ℕ) → ((checkFramed whole n ≡ refused code item) ⊎ ((checkFramed whole n ≡ value tt)
+      × ((indexed index (n .table) ≡ refused code item) ⊎ ((indexed index (n .table) ≡ value tt) × (judgeFrom (n .table) 1 (n .polygons) ≡ refused code item))))) → judgeIndexed index whole n ≡ refused code item
+  unfolding judgeIndexed
+  indexed-refused code item (inl p) = chain-refused (checkFramed whole n) then-index code item .1 (inl p)
+  indexed-refused code item (inr (p, inl i)) = chain-refused (checkFramed whole n) then-index code item .1 (inr (tt, p, chain-refused (indexed index (n .table)) (polygons whole n) code item .1 (inl i)))
+  indexed-refused code item (inr (p, inr (i, q))) =
+      chain-refused (checkFramed whole n) then-index code item .1
+      (inr (
+        tt,
+        p,
+        chain-refused (indexed index (n .table)) (polygons whole n) code item .1
+            (inr (tt, i, chain-refused (judgePolygons (n .table) (n .polygons)) (with-owners whole n) code item .1 (inl (polygons-refused (n .table) (n .polygons) code item .1 q)))),
+      ))
+
 -- ---- bytes
 module _ (mode : ℕ) (s : List ℕ) where
   -- The envelope around the sheet is the frame of its table, or there is none.
@@ -149,7 +184,7 @@ module _ (mode : ℕ) (s : List ℕ) where
 
   -- Bytes come to a judged sheet exactly if they are read as its sheet, that is judged so, and what stands around it agrees.
   pub judged-value : (j : Judged) → (judgedSheet mode s ≡ value j) ↔ ((readBy members mode s ≡ value (j .sheet)) × (judgeSheet (j .sheet) ≡ value j) × (whole-around (j .sheet) ≡ true))
-  unfolding judgedSheet
+  unfolding judgedWith
   judged-value j = (to, λ (p, q, b). chain-value (readBy members mode s) judging j .1 (j .sheet, p, envelope-value (whole-around (j .sheet)) (j .sheet) j .1 (q, b)))
     where
       to : andThen (readBy members mode s) judging ≡ value j → (readBy members mode s ≡ value (j .sheet)) × (judgeSheet (j .sheet) ≡ value j) × (whole-around (j .sheet) ≡ true)
@@ -162,5 +197,18 @@ module _ (mode : ℕ) (s : List ℕ) where
   -- They are refused by reading, or read as a sheet that is refused.
   pub judged-refused : (code item : ℕ)
       → (judgedSheet mode s ≡ refused code item) ↔ ((readBy members mode s ≡ refused code item) ⊎ ((n : Sheet) × (readBy members mode s ≡ value n) × (judgeFramed (whole-around n) n ≡ refused code item)))
-  unfolding judgedSheet
+  unfolding judgedWith
   judged-refused code item = chain-refused (readBy members mode s) judging code item
+
+  -- With an index bytes come to a judged sheet as without, where the index passes.
+  module _ (index : Option (List ℕ)) where
+    abbrev judging-with : Sheet → Answer Judged
+    judging-with n = judgeIndexed index (whole-around n) n
+
+    pub with-value : (j : Judged) → (judgedSheet mode s ≡ value j) × (indexed index (j .sheet .table) ≡ value tt) → judgedWith index mode s ≡ value j
+    unfolding judgedWith
+    with-value j (e, i) = let (p, q, b) = judged-value j .0 e in chain-value (readBy members mode s) judging-with j .1 (j .sheet, p, indexed-value index (whole-around (j .sheet)) (j .sheet) j .1 (envelope-value (whole-around (j .sheet)) (j .sheet) j .1 (q, b), i))
+
+    pub with-refused : (code item : ℕ) → (readBy members mode s ≡ refused code item) ⊎ ((n : Sheet) × (readBy members mode s ≡ value n) × (judgeIndexed index (whole-around n) n ≡ refused code item)) → judgedWith index mode s ≡ refused code item
+    unfolding judgedWith
+    with-refused code item = chain-refused (readBy members mode s) judging-with code item .1

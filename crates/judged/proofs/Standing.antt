@@ -2,6 +2,7 @@
 -- Assumes nothing.
 use mathlib.Core.Path.{_≡_, sym, _∙_, ap, ap₂, subst}
 use mathlib.Core.List.{List, map}
+use mathlib.Core.Option.{Option}
 use Prim.Native.Nat.{ℕ, _+_, _*_, _≤_, _<_}
 use native.Mathlib.Omega.{arith}
 use lib.ListN.{length, getD, take, length-map, length-take}
@@ -20,18 +21,18 @@ use Rattle.judged_sets.specs.declared.Owning.{Owning}
 use Rattle.judged_sets.specs.declared.Owning.the-variants.{Sets, Refused}
 use Rattle.judged_sets.proofs.Standing.{polygons-stand}
 use Rattle.judged_sets.proofs.Following.{polygons-count}
-use Rattle.judged.specs.Judged.{Judged, judgedSheet, repairOf}
+use Rattle.judged.specs.Judged.{Judged, judgedWith, repairOf}
 use Rattle.judged.specs.Held.{JudgedHeld, JudgedAs}
 use Rattle.judged.proofs.Repaired.{owners-many, pairs-up}
 use Rattle.judged.proofs.Sides.{lengths-held}
 
-module _ (mode : ℕ) (s : List ℕ) (r : Owning) (numbers opposite l : List ℕ) (e : JudgedAs mode s r numbers opposite l) where
+module _ (index : Option (List ℕ)) (mode : ℕ) (s : List ℕ) (r : Owning) (numbers opposite l : List ℕ) (e : JudgedAs index mode s r numbers opposite l) where
   -- The answer tells whether there is a judged sheet.
-  pub stands : (t : ℕ) → r ≡ Sets t → (j : Judged) × (judgedSheet mode s ≡ value j) × (length (j .sheet .table) ≡ t) × JudgedHeld j numbers (take (3 * t) opposite) (take t l)
-  stands t q = subst (λ r. JudgedAs mode s r numbers opposite l) q e
+  pub stands : (t : ℕ) → r ≡ Sets t → (j : Judged) × (judgedWith index mode s ≡ value j) × (length (j .sheet .table) ≡ t) × JudgedHeld j numbers (take (3 * t) opposite) (take t l)
+  stands t q = subst (λ r. JudgedAs index mode s r numbers opposite l) q e
 
-  pub refused-is : (code item : ℕ) → r ≡ Refused code item → judgedSheet mode s ≡ refused code item
-  refused-is code item q = subst (λ r. JudgedAs mode s r numbers opposite l) q e
+  pub refused-is : (code item : ℕ) → r ≡ Refused code item → judgedWith index mode s ≡ refused code item
+  refused-is code item q = subst (λ r. JudgedAs index mode s r numbers opposite l) q e
 
 module _ {j : Judged} {numbers opposite sets : List ℕ} (w : JudgedHeld j numbers opposite sets) where
   -- One owner set for each triangle, of which there are at most 1,024.

@@ -1,7 +1,8 @@
 -- A judged sheet as the code holds it: the sheet in numbers, its owner sets, and the side across each side.
 use mathlib.Core.Path.{_≡_}
-use mathlib.Core.Bool.{true}
+use mathlib.Core.Bool.{Bool, true}
 use mathlib.Core.List.{List, map}
+use mathlib.Core.Option.{Option, none}
 use Prim.Native.Nat.{ℕ, _*_}
 use lib.ListN.{length, take}
 use Rattle.plane.specs.Boundaries.{sidesOf}
@@ -14,7 +15,11 @@ use Rattle.sheet.specs.Held.{SheetHeld}
 use Rattle.sheet_turned.specs.Rings.{RingsFit}
 use Rattle.judged_sets.specs.declared.Owning.{Owning}
 use Rattle.judged_sets.specs.declared.Owning.the-variants.{Sets, Refused}
-use Rattle.judged.specs.Judged.{Judged, judgeFramed, judgedSheet}
+use Rattle.judged.specs.Judged.{Judged, judgeIndexed, judgedWith}
+
+-- What a sheet comes to with no index.
+abbrev pub judgeFramed : Bool → Sheet → Answer Judged
+judgeFramed = judgeIndexed none
 
 -- What a sheet by itself comes to: with no envelope, or one that is the frame.
 abbrev pub judgeSheet : Sheet → Answer Judged
@@ -31,7 +36,8 @@ pub record JudgedHeld (j : Judged) (numbers opposite sets : List ℕ) : Type 0 w
   pub sets-are : sets ≡ map setOf (j .owners)
   pub owners-are : map ownersOf sets ≡ j .owners
 
--- The answer with its three lists is what the bytes come to in the mode: a judged sheet of t triangles, held at the fronts of the lists, or the refusal.
-abbrev pub JudgedAs : ℕ → List ℕ → Owning → List ℕ → List ℕ → List ℕ → Type 0
-JudgedAs mode s (Sets t) numbers opposite l = (j : Judged) × (judgedSheet mode s ≡ value j) × (length (j .sheet .table) ≡ t) × JudgedHeld j numbers (take (3 * t) opposite) (take t l)
-JudgedAs mode s (Refused code item) numbers opposite l = judgedSheet mode s ≡ refused code item
+-- The answer with its three lists is what the bytes come to in the mode, with an index or none: a judged sheet of t triangles, held at the fronts of the lists, or the
+-- refusal.
+abbrev pub JudgedAs : Option (List ℕ) → ℕ → List ℕ → Owning → List ℕ → List ℕ → List ℕ → Type 0
+JudgedAs index mode s (Sets t) numbers opposite l = (j : Judged) × (judgedWith index mode s ≡ value j) × (length (j .sheet .table) ≡ t) × JudgedHeld j numbers (take (3 * t) opposite) (take t l)
+JudgedAs index mode s (Refused code item) numbers opposite l = judgedWith index mode s ≡ refused code item

@@ -1,12 +1,14 @@
--- From bytes to a judged sheet, and on to its repair: reading, the table rules, the envelope, the judging of the polygons in number order.
+-- From bytes to a judged sheet, and on to its repair: reading, the table rules, the envelope, an index that is lent, the judging of the polygons in number order.
 use mathlib.Core.Bool.{Bool}
 use mathlib.Core.List.{List}
+use mathlib.Core.Option.{Option, none}
 use Prim.Native.Nat.{ℕ}
 use Rattle.plane.specs.Boundaries.{sidesOf}
 use Rattle.plane_lengths.specs.Lengths.{lengthsOf}
 use Rattle.lent.specs.Stages.{Answer, value, andThen, needing}
 use Rattle.table.specs.Table.{frameEdges, checkTable}
 use Rattle.table.specs.Opposites.{opposites}
+use Rattle.table_neighbours.specs.Neighbours.{indexed}
 use Rattle.owners.specs.Owners.{judgePolygons}
 use Rattle.repair.specs.Ways.{repairedBy}
 use Rattle.sheet_form.specs.Numbers.{Sheet, members}
@@ -27,16 +29,20 @@ checkFramed whole n =
     andThen (checkTable (frameEdges (n .table)) (n .table)) (λ _.
     matched whole)
 
--- And then the polygons.
-unfoldable pub judgeFramed : Bool → Sheet → Answer Judged
-judgeFramed whole n =
+-- And then the index that is lent, if there is one, and the polygons.
+unfoldable pub judgeIndexed : Option (List ℕ) → Bool → Sheet → Answer Judged
+judgeIndexed index whole n =
     andThen (checkFramed whole n) (λ _.
+    andThen (indexed index (n .table)) (λ _.
     andThen (judgePolygons (n .table) (n .polygons)) (λ owners.
-    value (record { sheet = n; owners = owners })))
+    value (record { sheet = n; owners = owners }))))
 
--- What bytes come to in a mode: read as a sheet, which is judged with the envelope that stands around it.
-unfoldable pub judgedSheet : ℕ → List ℕ → Answer Judged
-judgedSheet mode s = andThen (readBy members mode s) (λ n. judgeFramed (framed (headerBy mode s) n) n)
+-- What bytes come to in a mode, with an index or none: read as a sheet, which is judged with the envelope that stands around it.
+unfoldable pub judgedWith : Option (List ℕ) → ℕ → List ℕ → Answer Judged
+judgedWith index mode s = andThen (readBy members mode s) (λ n. judgeIndexed index (framed (headerBy mode s) n) n)
+
+abbrev pub judgedSheet : ℕ → List ℕ → Answer Judged
+judgedSheet = judgedWith none
 
 -- The repair of a judged sheet in a way.
 abbrev pub repairOf : ℕ → Judged → Answer (List ℕ)

@@ -1,7 +1,9 @@
-// From bytes to a judged sheet: reading in a mode, the table rules, the envelope, and the judging of the polygons in number order.
+// From bytes to a judged sheet: reading in a mode, the table rules, the envelope, an index that is lent, and the judging of the polygons in number order.
 ghost use mathlib.Core.Path.{_≡_};
 ghost use Prim.Native.Nat.{_*_, _≤_};
 ghost use lib.ListN.{length};
+ghost use mathlib.Core.Option.{none};
+ghost use Rattle.table_neighbours.specs.Neighbours.{lentIf};
 ghost use Rattle.sheet_form.specs.Numbers.{Sheet, members};
 ghost use Rattle.sheet.specs.Held.{SheetHeld};
 ghost use Rattle.judged_table.specs.Checked.{Lists};
@@ -15,10 +17,13 @@ use sheet_modes::Around;
 use sheet_modes::Got;
 use table_check::Check;
 
-// The sheet in numbers with work lists of the right lengths: the table rules, the envelope around it, 52 where that isn't the frame, and then the polygons.
+// The sheet in numbers with work lists of the right lengths: the table rules, the envelope around it, 52 where that isn't the frame, an index that is lent,
+// 53 where it isn't the table's own, and then the polygons.
 fn judge_in(
     numbers: &[u32],
     around: Around,
+    indexed: bool,
+    lent: &[u8],
     keys: &mut [u64],
     ordered: &mut [u64],
     index: &mut [u64],
@@ -26,13 +31,16 @@ fn judge_in(
     sets: &mut [u64],
 ) -> Owning
     requires { ⌜ ((n : Sheet) × SheetHeld members n (now numbers) × (length (n .table) ≡ length (now sets))) × Lists (3 * length (now sets)) (now keys) (now ordered) (now index) (now opposite) ⌝ }
-    ensures { λ r. ⌜ ((n : Sheet) → SheetHeld members n (now (numbers .entry)) → length (n .table) ≡ length (now (sets .entry)) → OwnedOf (framed (aroundOf around) n) n r (now (opposite .exit)) (now (sets .exit))) ⌝ }
+    ensures { λ r. ⌜ ((n : Sheet) → SheetHeld members n (now (numbers .entry)) → length (n .table) ≡ length (now (sets .entry)) → OwnedOf (lentIf indexed (now (lent .entry))) (framed (aroundOf around) n) n r (now (opposite .exit)) (now (sets .exit))) ⌝ }
 {
-    match judged_table::check(numbers, keys, ordered, index, opposite) {
+    match judged_table::check(numbers, lent, keys, ordered, index, opposite) {
         Check::Refused(code, item) => Owning::Refused(code, item),
         Check::Passed(k) => {
             if !sheet_modes::framed(numbers, around) {
                 return Owning::Refused(52, 0);
+            }
+            if !table_neighbours::agrees(indexed, opposite, lent) {
+                return Owning::Refused(53, 0);
             }
             judged_sets::judge_all(numbers, &ordered[..k], index, opposite, sets)
         }
@@ -40,9 +48,16 @@ fn judge_in(
 }
 
 // The sheet in numbers with at most 64 triangles, judged in short work lists.
-fn judge_few(numbers: &[u32], around: Around, opposite: &mut [usize], sets: &mut [u64]) -> Owning
+fn judge_few(
+    numbers: &[u32],
+    around: Around,
+    indexed: bool,
+    lent: &[u8],
+    opposite: &mut [usize],
+    sets: &mut [u64],
+) -> Owning
     requires { ⌜ ((n : Sheet) × SheetHeld members n (now numbers) × (length (n .table) ≡ length (now sets))) × (length (now opposite) ≡ 3 * length (now sets)) × (length (now sets) ≤ 64) ⌝ }
-    ensures { λ r. ⌜ ((n : Sheet) → SheetHeld members n (now (numbers .entry)) → length (n .table) ≡ length (now (sets .entry)) → OwnedOf (framed (aroundOf around) n) n r (now (opposite .exit)) (now (sets .exit))) ⌝ }
+    ensures { λ r. ⌜ ((n : Sheet) → SheetHeld members n (now (numbers .entry)) → length (n .table) ≡ length (now (sets .entry)) → OwnedOf (lentIf indexed (now (lent .entry))) (framed (aroundOf around) n) n r (now (opposite .exit)) (now (sets .exit))) ⌝ }
 {
     let m = opposite.len();
     let mut keys = [0u64; 192];
@@ -51,6 +66,8 @@ fn judge_few(numbers: &[u32], around: Around, opposite: &mut [usize], sets: &mut
     judge_in(
         numbers,
         around,
+        indexed,
+        lent,
         &mut keys[..m],
         &mut ordered[..m],
         &mut index[..m],
@@ -60,9 +77,16 @@ fn judge_few(numbers: &[u32], around: Around, opposite: &mut [usize], sets: &mut
 }
 
 // The sheet in numbers with any triangles, judged in long work lists.
-fn judge_many(numbers: &[u32], around: Around, opposite: &mut [usize], sets: &mut [u64]) -> Owning
+fn judge_many(
+    numbers: &[u32],
+    around: Around,
+    indexed: bool,
+    lent: &[u8],
+    opposite: &mut [usize],
+    sets: &mut [u64],
+) -> Owning
     requires { ⌜ ((n : Sheet) × SheetHeld members n (now numbers) × (length (n .table) ≡ length (now sets))) × (length (now opposite) ≡ 3 * length (now sets)) ⌝ }
-    ensures { λ r. ⌜ ((n : Sheet) → SheetHeld members n (now (numbers .entry)) → length (n .table) ≡ length (now (sets .entry)) → OwnedOf (framed (aroundOf around) n) n r (now (opposite .exit)) (now (sets .exit))) ⌝ }
+    ensures { λ r. ⌜ ((n : Sheet) → SheetHeld members n (now (numbers .entry)) → length (n .table) ≡ length (now (sets .entry)) → OwnedOf (lentIf indexed (now (lent .entry))) (framed (aroundOf around) n) n r (now (opposite .exit)) (now (sets .exit))) ⌝ }
 {
     let m = opposite.len();
     let mut keys = [0u64; 3072];
@@ -71,6 +95,8 @@ fn judge_many(numbers: &[u32], around: Around, opposite: &mut [usize], sets: &mu
     judge_in(
         numbers,
         around,
+        indexed,
+        lent,
         &mut keys[..m],
         &mut ordered[..m],
         &mut index[..m],
@@ -80,29 +106,69 @@ fn judge_many(numbers: &[u32], around: Around, opposite: &mut [usize], sets: &mu
 }
 
 // The sheet in numbers over lists as long as its table asks, judged in short work lists where these do.
-fn judge_over(numbers: &[u32], around: Around, opposite: &mut [usize], sets: &mut [u64]) -> Owning
+fn judge_over(
+    numbers: &[u32],
+    around: Around,
+    indexed: bool,
+    lent: &[u8],
+    opposite: &mut [usize],
+    sets: &mut [u64],
+) -> Owning
     requires { ⌜ ((n : Sheet) × SheetHeld members n (now numbers) × (length (n .table) ≡ length (now sets))) × (length (now opposite) ≡ 3 * length (now sets)) ⌝ }
-    ensures { λ r. ⌜ ((n : Sheet) → SheetHeld members n (now (numbers .entry)) → length (n .table) ≡ length (now (sets .entry)) → OwnedOf (framed (aroundOf around) n) n r (now (opposite .exit)) (now (sets .exit))) ⌝ }
+    ensures { λ r. ⌜ ((n : Sheet) → SheetHeld members n (now (numbers .entry)) → length (n .table) ≡ length (now (sets .entry)) → OwnedOf (lentIf indexed (now (lent .entry))) (framed (aroundOf around) n) n r (now (opposite .exit)) (now (sets .exit))) ⌝ }
 {
     if sets.len() <= 64 {
-        return judge_few(numbers, around, opposite, sets);
+        return judge_few(numbers, around, indexed, lent, opposite, sets);
     }
-    judge_many(numbers, around, opposite, sets)
+    judge_many(numbers, around, indexed, lent, opposite, sets)
 }
 
 // The sheet in numbers: its owner sets, laid down at the front of the lent ones, and beside them the number of the reverse of each side; or the
 // refusal.
-fn judge(numbers: &[u32], around: Around, opposite: &mut [usize], sets: &mut [u64]) -> Owning
+pub fn judge(
+    numbers: &[u32],
+    around: Around,
+    indexed: bool,
+    lent: &[u8],
+    opposite: &mut [usize],
+    sets: &mut [u64],
+) -> Owning
     requires { ⌜ ((n : Sheet) × SheetHeld members n (now numbers)) × (3072 ≤ length (now opposite)) × (1024 ≤ length (now sets)) ⌝ }
-    ensures { λ r. ⌜ ((n : Sheet) → SheetHeld members n (now (numbers .entry)) → OwnedOf (framed (aroundOf around) n) n r (now (opposite .exit)) (now (sets .exit))) ⌝ }
+    ensures { λ r. ⌜ ((n : Sheet) → SheetHeld members n (now (numbers .entry)) → OwnedOf (lentIf indexed (now (lent .entry))) (framed (aroundOf around) n) n r (now (opposite .exit)) (now (sets .exit))) ⌝ }
 {
     let t = (numbers[0] - OFFSET) as usize;
     let m = 3 * t;
-    judge_over(numbers, around, &mut opposite[..m], &mut sets[..t])
+    judge_over(
+        numbers,
+        around,
+        indexed,
+        lent,
+        &mut opposite[..m],
+        &mut sets[..t],
+    )
 }
 
-// Reads the sheet in a mode and judges its polygons. On success the sheet in numbers, the number of the reverse of each side of its table, and the owner
-// sets stand at the front of the lent lists.
+// Reads the sheet in a mode, compares an index that is lent with its table's own, and judges its polygons. On success the sheet in numbers, the number of the reverse
+// of each side of its table, and the owner sets stand at the front of the lent lists.
+pub fn judged_with(
+    sheet: &[u8],
+    mode: u32,
+    indexed: bool,
+    lent: &[u8],
+    numbers: &mut [u32],
+    opposite: &mut [usize],
+    sets: &mut [u64],
+) -> Owning
+    requires { ⌜ (16450 ≤ length (now numbers)) × (3072 ≤ length (now opposite)) × (1024 ≤ length (now sets)) ⌝ }
+    ensures { λ r. ⌜ JudgedAs (lentIf indexed (now (lent .entry))) mode (now (sheet .entry)) r (now (numbers .exit)) (now (opposite .exit)) (now (sets .exit)) ⌝ }
+{
+    match sheet_modes::read(sheet, mode, numbers) {
+        Got::Refused(code, item, _) => Owning::Refused(code, item),
+        Got::Sheet(n, around) => judge(&numbers[..n], around, indexed, lent, opposite, sets),
+    }
+}
+
+// The same with no index.
 pub fn judged(
     sheet: &[u8],
     mode: u32,
@@ -111,10 +177,7 @@ pub fn judged(
     sets: &mut [u64],
 ) -> Owning
     requires { ⌜ (16450 ≤ length (now numbers)) × (3072 ≤ length (now opposite)) × (1024 ≤ length (now sets)) ⌝ }
-    ensures { λ r. ⌜ JudgedAs mode (now (sheet .entry)) r (now (numbers .exit)) (now (opposite .exit)) (now (sets .exit)) ⌝ }
+    ensures { λ r. ⌜ JudgedAs none mode (now (sheet .entry)) r (now (numbers .exit)) (now (opposite .exit)) (now (sets .exit)) ⌝ }
 {
-    match sheet_modes::read(sheet, mode, numbers) {
-        Got::Refused(code, item, _) => Owning::Refused(code, item),
-        Got::Sheet(n, around) => judge(&numbers[..n], around, opposite, sets),
-    }
+    judged_with(sheet, mode, false, &[0u8; 0], numbers, opposite, sets)
 }

@@ -7,9 +7,11 @@ ghost use Rattle.sheet.specs.Held.{SheetHeld};
 ghost use Rattle.judged_table.specs.Checked.{Lists, TableChecked};
 use table_check::Check;
 
-// The table rules in their order: 10 over all triangles, then 11, then 12 against the frame. The corners are laid down in work lists of the right lengths.
+// The table rules in their order: 10 over all triangles, then 11, then 12 against the frame. The corners are laid down in work lists of the right lengths; a lent
+// index may say where the side across a side is looked for first.
 pub fn check(
     numbers: &[u32],
+    lent: &[u8],
     keys: &mut [u64],
     ordered: &mut [u64],
     index: &mut [u64],
@@ -24,5 +26,5 @@ pub fn check(
     sheet_edges::corners(numbers, keys);
     let frame = table_check::frame_of(keys);
     table_check::outline(frame, &mut from, &mut to);
-    table_check::check_table(keys, &from, &to, ordered, index, opposite)
+    table_check::check_table(keys, &from, &to, lent, ordered, index, opposite)
 }

@@ -16,12 +16,12 @@ use Rattle.sheet_edges.proofs.Triangles.{table-room}
 use Rattle.judged.specs.Judged.{Judged}
 use Rattle.judged.specs.Held.{JudgedHeld}
 
-map-take : {A B : Type 0} (f : A → B) (k : ℕ) (l : List A) → map f (take k l) ≡ take k (map f l)
+pub map-take : {A B : Type 0} (f : A → B) (k : ℕ) (l : List A) → map f (take k l) ≡ take k (map f l)
 map-take f zero l = refl
 map-take f (suc k) [] = refl
 map-take f (suc k) (a ∷ l) = ap (λ m. f a ∷ m) (map-take f k l)
 
-six-each : (table : List Triangle) → length (flatMap triangleNumbers table) ≡ 6 * length table
+pub six-each : (table : List Triangle) → length (flatMap triangleNumbers table) ≡ 6 * length table
 unfolding flatMap
 six-each [] = omega arith
 six-each (t ∷ table) = omega (arith, length-append (triangleNumbers t) (flatMap triangleNumbers table), six-each table)

@@ -4,3 +4,4 @@ pub mod Position
 pub mod Judged
 pub mod Point
 pub mod Sized
+pub mod Index

@@ -95,7 +95,7 @@ passing-fewer test [] = omega arith
 passing-fewer test (a ∷ l) =
     by-cond (λ m. length m ≤ suc (length l)) (test a) (a ∷ passing test l) (passing test l) (λ t. omega (arith, passing-fewer test l)) (omega (arith, passing-fewer test l))
 
-sides-three : (l : List Triangle) → length (sidesOf l) ≡ 3 * length l
+pub sides-three : (l : List Triangle) → length (sidesOf l) ≡ 3 * length l
 unfolding flatMap
 sides-three [] = omega arith
 sides-three (t ∷ l) = omega (arith, length-append (sides t) (flatMap sides l), sides-three l)

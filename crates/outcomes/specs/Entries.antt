@@ -1,5 +1,5 @@
 -- What each entry comes to, by what is asked of it.
-use mathlib.Core.Bool.{Bool, _&&_}
+use mathlib.Core.Bool.{Bool, true, false, _&&_}
 use mathlib.Core.List.{List, [], _++_, map, flatMap}
 use mathlib.Core.Option.{Option, none, some}
 use Prim.Native.Nat.{ℕ, _+_, _*_}
@@ -16,6 +16,7 @@ use Rattle.lent_little.specs.Ordered
 use Rattle.lent_little.specs.Bytes.{i32, sideBytes}
 use Rattle.lent_sets.specs.Sets.{eachOutcome}
 use Rattle.table_points.specs.Points.{triangleOf}
+use Rattle.table_neighbours.specs.Neighbours.{ownIndex, lentIf}
 use Rattle.owners_marks.specs.Marks.{setOf}
 use Rattle.repair_sides.specs.Sides.{boundarySides, trianglesOwned}
 use Rattle.repair_answers.specs.Answers.{numbersAfter}
@@ -25,7 +26,7 @@ use Rattle.sheet_blob.specs.declared.Opened.{Opened}
 use Rattle.sheet_blob_written.specs.Given.{blobGiven, writeBlob}
 use Rattle.sheet_modes.specs.Modes.{modeOf, headerBy, readBy, framed, positionIn}
 use Rattle.sheet_written.specs.Given.{sheetGiven, writeOutcome}
-use Rattle.judged.specs.Judged.{Judged, matched, judgedSheet, repairOf}
+use Rattle.judged.specs.Judged.{Judged, matched, checkFramed, judgedWith, judgedSheet, repairOf}
 use Rattle.listing.specs.Listing.{listing}
 use Rattle.outcomes.specs.declared.Asked.{Asked}
 use Rattle.outcomes.specs.declared.Wanted.{Wanted}
@@ -115,23 +116,23 @@ goesOn way Owners j = andThen (repairOf way j) numbersAfter
 goesOn way (Boundary polygon) j = andThen (needing (onSheet polygon (j .sheet)) 41 0) (λ _. andThen (repairOf way j) (λ owners. sidesAfter (ownedSides (j .sheet) polygon owners)))
 goesOn way (At x y) j = andThen (repairOf way j) (ownerThere (triangleOf (record { x = x; y = y }) (j .sheet .table)))
 
--- The road of the entries that judge: the bytes come to a judged sheet, which goes on to what is wanted.
-abbrev pub answerTo : Asked → List ℕ → Outcome
-answerTo asked s = andThen (judgedSheet (asked .mode) s) (goesOn (asked .way) (asked .wanted))
+-- The road of the entries that judge: the bytes come to a judged sheet, with the index that is lent or none, which goes on to what is wanted.
+abbrev pub answerTo : Asked → List ℕ → List ℕ → Outcome
+answerTo asked index s = andThen (judgedWith (lentIf (asked .indexed) index) (asked .mode) s) (goesOn (asked .way) (asked .wanted))
 
 -- sheet_owner_sets_by, sheet_owners_by, and sheet_boundary_by for the polygon of the number.
 abbrev pub sheetOwnerSetsBy : ℕ → List ℕ → Outcome
-sheetOwnerSetsBy mode = answerTo (record { mode = mode; way = 0; wanted = OwnerSets })
+sheetOwnerSetsBy mode = answerTo (record { mode = mode; way = 0; wanted = OwnerSets; indexed = false }) []
 
 abbrev pub sheetOwnersBy : ℕ → ℕ → List ℕ → Outcome
-sheetOwnersBy mode way = answerTo (record { mode = mode; way = way; wanted = Owners })
+sheetOwnersBy mode way = answerTo (record { mode = mode; way = way; wanted = Owners; indexed = false }) []
 
 abbrev pub sheetBoundaryBy : ℕ → ℕ → ℕ → List ℕ → Outcome
-sheetBoundaryBy mode way polygon = answerTo (record { mode = mode; way = way; wanted = Boundary polygon })
+sheetBoundaryBy mode way polygon = answerTo (record { mode = mode; way = way; wanted = Boundary polygon; indexed = false }) []
 
 -- sheet_at: the owner after repair at the point (x, y) as the item. It writes no bytes.
 abbrev pub sheetAt : ℕ → ℕ → ℤ → ℤ → List ℕ → Outcome
-sheetAt mode way x y = answerTo (record { mode = mode; way = way; wanted = At x y })
+sheetAt mode way x y = answerTo (record { mode = mode; way = way; wanted = At x y; indexed = false }) []
 
 -- sheet_owner_sets, sheet_owners and sheet_boundary are the same in mode 0 and way 0.
 abbrev pub sheetOwnerSets : List ℕ → Outcome
@@ -143,11 +144,30 @@ sheetOwners = sheetOwnersBy 0 0
 abbrev pub sheetBoundary : ℕ → List ℕ → Outcome
 sheetBoundary polygon = sheetBoundaryBy 0 0 polygon
 
--- ---- the listing
--- The bytes of a text; the item is their number.
+-- ---- the index, and the entries that take one
+-- Bytes whose number is the item.
 abbrev pub textOutcome : List ℕ → Outcome
 textOutcome text = bytes (length text) text
 
+-- The table of a sheet passes the rules, the envelope is its frame or there is none, and then the table's own index is told; the item is its length.
+abbrev pub indexOutcome : Bool → Sheet → Outcome
+indexOutcome whole n = andThen (checkFramed whole n) (λ _. textOutcome (ownIndex (n .table)))
+
+-- sheet_index.
+abbrev pub sheetIndex : ℕ → List ℕ → Outcome
+sheetIndex mode s = andThen (readBy members mode s) (λ n. indexOutcome (framed (headerBy mode s) n) n)
+
+-- sheet_owner_sets_indexed, sheet_owners_indexed, sheet_boundary_indexed.
+abbrev pub sheetOwnerSetsIndexed : ℕ → List ℕ → List ℕ → Outcome
+sheetOwnerSetsIndexed mode = answerTo (record { mode = mode; way = 0; wanted = OwnerSets; indexed = true })
+
+abbrev pub sheetOwnersIndexed : ℕ → ℕ → List ℕ → List ℕ → Outcome
+sheetOwnersIndexed mode way = answerTo (record { mode = mode; way = way; wanted = Owners; indexed = true })
+
+abbrev pub sheetBoundaryIndexed : ℕ → ℕ → ℕ → List ℕ → List ℕ → Outcome
+sheetBoundaryIndexed mode way polygon = answerTo (record { mode = mode; way = way; wanted = Boundary polygon; indexed = true })
+
+-- ---- the listing
 -- sheet_listing_by: a refused sheet has a listing too, so that 40 is its only refusal. sheet_listing is the same in mode 0 and way 0.
 abbrev pub sheetListingBy : ℕ → ℕ → List ℕ → Outcome
 sheetListingBy mode way s = textOutcome (listing way (judgedSheet mode s))

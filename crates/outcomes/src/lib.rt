@@ -9,9 +9,10 @@ pub enum Wanted {
     At(i32, i32),
 }
 
-// What is asked besides the bytes: the mode of reading, the way to fill gaps, and what is wanted.
+// What is asked besides the bytes: the mode of reading, the way to fill gaps, what is wanted, and whether an index is lent.
 pub struct Asked {
     pub mode: u32,
     pub way: u32,
     pub wanted: Wanted,
+    pub indexed: bool,
 }

@@ -3,7 +3,7 @@
 ghost use mathlib.Core.Path.{_≡_};
 ghost use mathlib.Core.List.{[]};
 ghost use Rattle.lent.specs.Answered.{Answered, answerOf};
-ghost use Rattle.outcomes.specs.Entries.{sheetNumbers, sheetNumbersBy, sheetAreas, sheetPosition, sheetWrite, sheetWriteBlob, sheetOwnerSets, sheetOwnerSetsBy, sheetOwners, sheetOwnersBy, sheetBoundary, sheetBoundaryBy, sheetListing, sheetListingBy, sheetAt};
+ghost use Rattle.outcomes.specs.Entries.{sheetNumbers, sheetNumbersBy, sheetAreas, sheetPosition, sheetWrite, sheetWriteBlob, sheetOwnerSets, sheetOwnerSetsBy, sheetOwners, sheetOwnersBy, sheetBoundary, sheetBoundaryBy, sheetListing, sheetListingBy, sheetAt, sheetIndex, sheetOwnerSetsIndexed, sheetOwnersIndexed, sheetBoundaryIndexed};
 use outcomes::Asked;
 use outcomes::Wanted;
 
@@ -101,8 +101,10 @@ pub extern "C" fn sheet_owner_sets_by(sheet: &[u8], mode: u32, out: &mut [u8]) -
             mode: mode,
             way: 0,
             wanted: Wanted::OwnerSets,
+            indexed: false,
         },
         sheet,
+        &[0u8; 0],
         out,
     )
 }
@@ -117,8 +119,10 @@ pub extern "C" fn sheet_owners_by(sheet: &[u8], mode: u32, way: u32, out: &mut [
             mode: mode,
             way: way,
             wanted: Wanted::Owners,
+            indexed: false,
         },
         sheet,
+        &[0u8; 0],
         out,
     )
 }
@@ -139,8 +143,10 @@ pub extern "C" fn sheet_boundary_by(
             mode: mode,
             way: way,
             wanted: Wanted::Boundary(polygon),
+            indexed: false,
         },
         sheet,
+        &[0u8; 0],
         out,
     )
 }
@@ -164,8 +170,92 @@ pub extern "C" fn sheet_at(sheet: &[u8], mode: u32, way: u32, x: i32, y: i32) ->
             mode: mode,
             way: way,
             wanted: Wanted::At(x, y),
+            indexed: false,
         },
         sheet,
+        &[0u8; 0],
         &mut none,
+    )
+}
+
+// ---- the index, and the entries that take one
+// The index of a sheet that is read in a mode: for each triangle and side the number of the triangle with the reversed side, 0 for none, as little-endian u16 by triangle
+// and then ab, bc, ca; the item is the number of bytes.
+#[no_mangle]
+pub extern "C" fn sheet_index(sheet: &[u8], mode: u32, out: &mut [u8]) -> u64
+    ensures { λ r. ⌜ Answered (sheetIndex mode (now (sheet .entry))) (now (out .entry)) r (now (out .exit)) ⌝ }
+{
+    sheets_index::index(sheet, mode, out)
+}
+
+// The owners of each triangle before repair, with an index that is lent; 53 where it isn't the table's own.
+#[no_mangle]
+pub extern "C" fn sheet_owner_sets_indexed(
+    sheet: &[u8],
+    index: &[u8],
+    mode: u32,
+    out: &mut [u8],
+) -> u64
+    ensures { λ r. ⌜ Answered (sheetOwnerSetsIndexed mode (now (index .entry)) (now (sheet .entry))) (now (out .entry)) r (now (out .exit)) ⌝ }
+{
+    sheets_answers::answer(
+        Asked {
+            mode: mode,
+            way: 0,
+            wanted: Wanted::OwnerSets,
+            indexed: true,
+        },
+        sheet,
+        index,
+        out,
+    )
+}
+
+// The number of each triangle after repair in a way, with an index that is lent.
+#[no_mangle]
+pub extern "C" fn sheet_owners_indexed(
+    sheet: &[u8],
+    index: &[u8],
+    mode: u32,
+    way: u32,
+    out: &mut [u8],
+) -> u64
+    ensures { λ r. ⌜ Answered (sheetOwnersIndexed mode way (now (index .entry)) (now (sheet .entry))) (now (out .entry)) r (now (out .exit)) ⌝ }
+{
+    sheets_answers::answer(
+        Asked {
+            mode: mode,
+            way: way,
+            wanted: Wanted::Owners,
+            indexed: true,
+        },
+        sheet,
+        index,
+        out,
+    )
+}
+
+// The boundary sides of a polygon after repair in a way, with an index that is lent.
+#[no_mangle]
+pub extern "C" fn sheet_boundary_indexed(
+    sheet: &[u8],
+    index: &[u8],
+    mode: u32,
+    way: u32,
+    polygon: u32,
+    out: &mut [u8],
+) -> u64
+    ensures { λ r. ⌜ Answered (sheetBoundaryIndexed mode way polygon (now (index .entry)) (now (sheet .entry))) (now (out .entry)) r (now (out .exit)) ⌝ }
+{
+    sheets_answers::answer(
+        Asked {
+            mode: mode,
+            way: way,
+            wanted: Wanted::Boundary(polygon),
+            indexed: true,
+        },
+        sheet,
+        index,
+        out,
     )
 }

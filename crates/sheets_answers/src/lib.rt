@@ -118,14 +118,22 @@ fn go_on(
     }
 }
 
-// The road of the entries that judge: the bytes come to a judged sheet, which goes on to what is wanted.
-pub fn answer(asked: Asked, sheet: &[u8], out: &mut [u8]) -> u64
-    ensures { λ r. ⌜ Answered (answerTo asked (now (sheet .entry))) (now (out .entry)) r (now (out .exit)) ⌝ }
+// The road of the entries that judge: the bytes come to a judged sheet, with the index that is lent or none, which goes on to what is wanted.
+pub fn answer(asked: Asked, sheet: &[u8], index: &[u8], out: &mut [u8]) -> u64
+    ensures { λ r. ⌜ Answered (answerTo asked (now (index .entry)) (now (sheet .entry))) (now (out .entry)) r (now (out .exit)) ⌝ }
 {
     let mut numbers = [0u32; 16450];
     let mut opposite = [0usize; 3072];
     let mut sets = [0u64; 1024];
-    match judged::judged(sheet, asked.mode, &mut numbers, &mut opposite, &mut sets) {
+    match judged::judged_with(
+        sheet,
+        asked.mode,
+        asked.indexed,
+        index,
+        &mut numbers,
+        &mut opposite,
+        &mut sets,
+    ) {
         Owning::Refused(code, item) => item as u64 * 256 + code as u64,
         Owning::Sets(n) => {
             let wanted = asked.wanted;

@@ -191,11 +191,13 @@ fn outlined(
     )
 }
 
-// The table rules in their order: 10 over all triangles, then 11, then 12 against the outline, the edges from the corners of one list to those of the other.
+// The table rules in their order: 10 over all triangles, then 11, then 12 against the outline, the edges from the corners of one list to those of the other. A lent
+// index may say where the side across a side is looked for first.
 pub fn check_table(
     keys: &[u64],
     from: &[u64],
     to: &[u64],
+    lent: &[u8],
     ordered: &mut [u64],
     index: &mut [u64],
     opposite: &mut [usize],
@@ -208,7 +210,7 @@ pub fn check_table(
         return Check::Refused(10, flat as u32);
     }
     let n = whole_order::sort(keys, ordered);
-    let repeated = table_index::index_sides(keys, &ordered[..n], index, opposite);
+    let repeated = table_index::index_sides(keys, &ordered[..n], lent, index, opposite);
     if repeated != 0 {
         return Check::Refused(11, repeated as u32);
     }

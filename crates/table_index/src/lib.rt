@@ -74,6 +74,7 @@ fn notes(corners: &[u64], codes: &[u64], opposite: &[usize], index: &mut [u64])
 fn lay_sides(
     keys: &[u64],
     ordered: &[u64],
+    lent: &[u8],
     codes: &mut [u64],
     index: &mut [u64],
     opposite: &mut [usize],
@@ -88,38 +89,51 @@ fn lay_sides(
     if r != 0 {
         return r;
     }
-    table_chains::opposites(index, codes, opposite);
+    table_chains::opposites(index, codes, lent, opposite);
     notes(ordered, codes, opposite, index);
     0
 }
 
 // Makes at most 192 sides ready to be looked up, their codes laid down in a short work list.
-fn index_few(keys: &[u64], ordered: &[u64], index: &mut [u64], opposite: &mut [usize]) -> usize
+fn index_few(
+    keys: &[u64],
+    ordered: &[u64],
+    lent: &[u8],
+    index: &mut [u64],
+    opposite: &mut [usize],
+) -> usize
     requires { ⌜ All Key (now keys) × ((n : ℕ) × (length (now keys) ≡ 3 * n)) × (length (now keys) ≤ 192) × (now ordered ≡ ascending (now keys))
         × (length (now index) ≡ length (now keys)) × (length (now opposite) ≡ length (now keys)) ⌝ }
     ensures { λ r. ⌜ (r ≡ itemOf (firstFault repeats [] (trianglesOf (now (keys .entry))))) × (RuleB (trianglesOf (now (keys .entry))) → Indexed (now (keys .entry)) (now (ordered .entry)) (now (index .exit)) (now (opposite .exit))) ⌝ }
 {
     let n = keys.len();
     let mut codes = [0u64; 192];
-    lay_sides(keys, ordered, &mut codes[..n], index, opposite)
+    lay_sides(keys, ordered, lent, &mut codes[..n], index, opposite)
 }
 
 // Makes the sides of any table ready to be looked up, their codes laid down in a long work list.
-fn index_many(keys: &[u64], ordered: &[u64], index: &mut [u64], opposite: &mut [usize]) -> usize
+fn index_many(
+    keys: &[u64],
+    ordered: &[u64],
+    lent: &[u8],
+    index: &mut [u64],
+    opposite: &mut [usize],
+) -> usize
     requires { ⌜ All Key (now keys) × ((n : ℕ) × (length (now keys) ≡ 3 * n)) × (length (now keys) ≤ 3072) × (now ordered ≡ ascending (now keys))
         × (length (now index) ≡ length (now keys)) × (length (now opposite) ≡ length (now keys)) ⌝ }
     ensures { λ r. ⌜ (r ≡ itemOf (firstFault repeats [] (trianglesOf (now (keys .entry))))) × (RuleB (trianglesOf (now (keys .entry))) → Indexed (now (keys .entry)) (now (ordered .entry)) (now (index .exit)) (now (opposite .exit))) ⌝ }
 {
     let n = keys.len();
     let mut codes = [0u64; 3072];
-    lay_sides(keys, ordered, &mut codes[..n], index, opposite)
+    lay_sides(keys, ordered, lent, &mut codes[..n], index, opposite)
 }
 
-// Makes the table's sides ready to be looked up, and lays down the side across each side. Answers the number of the first triangle with a
-// side of an earlier one, 0 where there is none.
+// Makes the table's sides ready to be looked up, and lays down the side across each side, which a lent index may say where to look for. Answers the number of the
+// first triangle with a side of an earlier one, 0 where there is none.
 pub fn index_sides(
     keys: &[u64],
     ordered: &[u64],
+    lent: &[u8],
     index: &mut [u64],
     opposite: &mut [usize],
 ) -> usize
@@ -128,7 +142,7 @@ pub fn index_sides(
     ensures { λ r. ⌜ (r ≡ itemOf (firstFault repeats [] (trianglesOf (now (keys .entry))))) × (RuleB (trianglesOf (now (keys .entry))) → Indexed (now (keys .entry)) (now (ordered .entry)) (now (index .exit)) (now (opposite .exit))) ⌝ }
 {
     if keys.len() <= 192 {
-        return index_few(keys, ordered, index, opposite);
+        return index_few(keys, ordered, lent, index, opposite);
     }
-    index_many(keys, ordered, index, opposite)
+    index_many(keys, ordered, lent, index, opposite)
 }

@@ -45,7 +45,7 @@ fn entries() {
     println!("| Sheets | Entry | Bytes in | Library, µs | Independent, µs | Library / independent | Library, MB/s | Independent, MB/s |");
     println!("|---|---|---|---|---|---|---|---|");
     let judging = [Entry::OwnerSets, Entry::Owners, Entry::Boundary(1), Entry::Listing];
-    let reading = [Entry::Numbers, Entry::NumbersBy(0), Entry::NumbersBy(1), Entry::Position(0), Entry::Areas(0), Entry::Write];
+    let reading = [Entry::Numbers, Entry::NumbersBy(0), Entry::NumbersBy(1), Entry::Position(0), Entry::Areas(0), Entry::Index(0), Entry::Write];
     let of_blobs = [Entry::NumbersBy(2), Entry::WriteBlob, Entry::OwnerSetsBy(0), Entry::OwnerSetsBy(2)];
     let entries = [&reading[..], &judging, &of_blobs].concat();
     for (name, sheets) in &kinds() {
@@ -152,6 +152,10 @@ fn word(entry: Entry) -> String {
         Entry::BoundaryBy(mode, ..) => by("sheet_boundary_by", mode),
         Entry::ListingBy(mode, _) => by("sheet_listing_by", mode),
         Entry::At(mode, ..) => by("sheet_at", mode),
+        Entry::Index(mode) => by("sheet_index", mode),
+        Entry::OwnerSetsIndexed(_, mode) => by("sheet_owner_sets_indexed", mode),
+        Entry::OwnersIndexed(_, mode, _) => by("sheet_owners_indexed", mode),
+        Entry::BoundaryIndexed(_, mode, ..) => by("sheet_boundary_indexed", mode),
     }
 }
 

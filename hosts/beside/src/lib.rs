@@ -1,6 +1,6 @@
 //! The library beside the independent program, for the bench and the fuzz target.
 
-use independent::entries::Entry;
+use independent::entries::{Entry, Input};
 use sheets::{lent, Refusal};
 
 /// Calls the library's entry of that name.
@@ -21,5 +21,11 @@ pub fn call(entry: Entry, input: &[u8], out: &mut [u8]) -> Result<u64, Refusal> 
         Entry::ListingBy(mode, way) => lent::listing_by(input, mode, way, out),
         Entry::WriteBlob => lent::write_blob(input, out),
         Entry::At(mode, way, x, y) => lent::at(input, mode, way, x, y),
+        Entry::Index(mode) => lent::index(input, mode, out),
+        Entry::OwnerSetsIndexed(index, mode) => lent::owner_sets_indexed(input, &Input::new(input).lent(index, mode), mode, out),
+        Entry::OwnersIndexed(index, mode, way) => lent::owners_indexed(input, &Input::new(input).lent(index, mode), mode, way, out),
+        Entry::BoundaryIndexed(index, mode, way, polygon) => {
+            lent::boundary_indexed(input, &Input::new(input).lent(index, mode), mode, way, polygon, out)
+        }
     }
 }

@@ -2,7 +2,7 @@
 //! written must be those of the independent program, whose code guides the fuzzer.
 
 use beside::call;
-use independent::entries::{fit, packed, whole, Entry};
+use independent::entries::{fit, packed, whole, Entry, Lent};
 
 /// What a lent byte is before a call.
 const LENT: u8 = 0xa7;
@@ -26,7 +26,11 @@ pub unsafe extern "C" fn LLVMFuzzerTestOneInput(data: *const u8, size: usize) ->
     let coordinate = |back: usize| input.len().checked_sub(back).map_or(0, |at| i32::from(input[at] as i8)) << (7 * asked);
     let (x, y) = (coordinate(2), coordinate(3));
     let points = [Entry::At(0, way, x, y), Entry::At(1, 0, y, x), Entry::At(mode, 1, x, 0), Entry::At(asked, 0, 1, 1)];
-    let entries = reading.into_iter().chain(areas).chain(entries).chain(older).chain(of_blobs).chain(more).chain(points);
+    let every = Lent::every(input.len() as u16);
+    let lent = every[size % every.len()];
+    let index = [Entry::Index(0), Entry::Index(mode), Entry::OwnerSetsIndexed(Lent::Own, 0), Entry::OwnersIndexed(lent, 0, way)];
+    let indexed = [Entry::BoundaryIndexed(lent, mode, way, asked), Entry::OwnerSetsIndexed(lent, mode)];
+    let entries = reading.into_iter().chain(areas).chain(entries).chain(older).chain(of_blobs).chain(more).chain(points).chain(index).chain(indexed);
     let mut difference = entries.into_iter().find_map(|entry| compare(entry, input));
     for (mode, write) in [(0, Entry::Write), (1, Entry::Write), (2, Entry::WriteBlob), (3, Entry::WriteBlob)] {
         if let Ok(numbers) = whole(Entry::NumbersBy(mode), input) {

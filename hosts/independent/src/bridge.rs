@@ -3,7 +3,7 @@
 //! A call is the frame u8 function (by its place in `NAMES`), u32 mode, u32 way, u32 polygon, u32 input length, u32 room, then
 //! the input, all little-endian. What a function isn't asked for is 0. The bridge calls the entry with so much room, and answers
 //! u64 packed answer and exactly `room` bytes: the lent bytes after the call, where lent byte i was (i * 131 + 17) % 256 before
-//! it. Before the input of a point's call stand its x and y, i32 each, and count with it.
+//! it. Before the input of a point's call stand its x and y, i32 each, and count with it. Where an index is lent, the input is a u32 length, so many bytes of the sheet, and then the index.
 //!
 //! A room of 2^32 - 1 asks for the bridge's wrapper, whose room is its own. The bridge answers u64 packed answer, put
 //! together from what the wrapper says; u32 length; and so many bytes, the wrapper's value turned back to bytes, none for a
@@ -13,13 +13,13 @@
 //!
 //! Frames may come without waiting for answers; a bridge that has no frame left to take must have flushed its answers.
 
-use crate::entries::{packed, Entry, Input, Success};
+use crate::entries::{packed, Entry, Input, Lent, Success};
 use crate::Refusal;
 use std::io::Read;
 use std::process::{Child, Command, Stdio};
 
 /// The functions' names, by the numbers that they have in a frame.
-pub const NAMES: [&str; 16] = [
+pub const NAMES: [&str; 20] = [
     "numbers",
     "write",
     "owner sets",
@@ -36,6 +36,10 @@ pub const NAMES: [&str; 16] = [
     "write blob",
     "areas",
     "at a point",
+    "index",
+    "owner sets with an index",
+    "owners with an index",
+    "boundary with an index",
 ];
 
 /// What is called.
@@ -85,6 +89,10 @@ impl Function {
             Function::Entry(Entry::WriteBlob) => (13, [0; 3]),
             Function::Entry(Entry::Areas(mode)) => (14, [mode, 0, 0]),
             Function::Entry(Entry::At(mode, way, ..)) => (15, [mode, way, 0]),
+            Function::Entry(Entry::Index(mode)) => (16, [mode, 0, 0]),
+            Function::Entry(Entry::OwnerSetsIndexed(_, mode)) => (17, [mode, 0, 0]),
+            Function::Entry(Entry::OwnersIndexed(_, mode, way)) => (18, [mode, way, 0]),
+            Function::Entry(Entry::BoundaryIndexed(_, mode, way, polygon)) => (19, [mode, way, polygon]),
         }
     }
 
@@ -109,9 +117,28 @@ impl Function {
             Entry::BoundaryBy(mode, way, polygon),
             Entry::ListingBy(mode, way),
             Entry::At(mode, way, x, y),
+            Entry::Index(mode),
         ];
         let mut entries = plain.into_iter().chain(asked);
         entries.find(|entry| Function::Entry(*entry).numbers().0 == number)
+    }
+
+    /// The index that it is lent, if any, with the mode.
+    pub fn lent(self) -> Option<(Lent, u32)> {
+        match self {
+            Function::Entry(Entry::OwnerSetsIndexed(lent, mode)) => Some((lent, mode)),
+            Function::Entry(Entry::OwnersIndexed(lent, mode, _)) => Some((lent, mode)),
+            Function::Entry(Entry::BoundaryIndexed(lent, mode, ..)) => Some((lent, mode)),
+            _ => None,
+        }
+    }
+
+    /// The input of its frame: where an index is lent, the length of the sheet, the sheet and the index.
+    pub fn input(self, bytes: &[u8], input: &Input) -> Vec<u8> {
+        match self.lent() {
+            Some((lent, mode)) => [&(bytes.len() as u32).to_le_bytes()[..], bytes, &input.lent(lent, mode)].concat(),
+            None => bytes.to_vec(),
+        }
     }
 
     /// What it takes.
@@ -193,7 +220,8 @@ impl Call {
             Function::Entry(Entry::At(_, _, x, y)) => format!(" at {x},{y}"),
             _ => String::new(),
         };
-        let asked = format!("mode {mode} way {way} polygon {polygon}{point}");
+        let lent = self.function.lent().map_or(String::new(), |(lent, _)| format!(" {lent:?}"));
+        let asked = format!("mode {mode} way {way} polygon {polygon}{point}{lent}");
         format!("{} {} {asked} room {:?}", self.input, NAMES[number], self.room)
     }
 

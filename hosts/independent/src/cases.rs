@@ -13,6 +13,7 @@ mod counts;
 pub mod examples;
 pub mod fields;
 mod ground;
+mod index;
 mod large;
 mod numbers;
 mod older;
@@ -48,6 +49,7 @@ pub fn all() -> Vec<Case> {
         blobs::cases,
         areas::cases,
         points::cases,
+        index::cases,
     ];
     groups.iter().for_each(|group| group(&mut cases));
     cases.0
@@ -167,6 +169,10 @@ mod tests {
                 let right = if owner == 0 { (55, None) } else { (256 * owner, Some(Vec::new())) };
                 answered(Entry::At(mode, 0, x, y), input) == right
             }),
+            Outcome::Index(numbers) => {
+                let bytes = numbers.iter().flat_map(|number| number.to_le_bytes()).collect();
+                answered(Entry::Index(mode), input) == (2 * 256 * numbers.len() as u64, Some(bytes))
+            }
             Outcome::Holds(number, sheet) => {
                 let numbers = whole(Entry::Numbers, sheet).unwrap().bytes;
                 let held = [&number.to_le_bytes()[..], &numbers].concat();

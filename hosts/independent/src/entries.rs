@@ -3,6 +3,7 @@
 use crate::ownership::{judge_sheet, member_double_area, Judged};
 use crate::reading::{read_in, Mode};
 use crate::repair::{boundary_sides, repaired};
+use crate::table::{index, Table};
 use crate::{listing, points, writing, Point, Refusal};
 use std::cell::OnceCell;
 
@@ -39,6 +40,41 @@ pub enum Entry {
     ListingBy(u32, u32),
     /// The owner after repair at a point, in the mode and the way of these numbers, by x and y; no bytes are lent.
     At(u32, u32, i32, i32),
+    /// The index of the table, read in the mode of this number.
+    Index(u32),
+    /// The set entry with this index, in the mode of this number.
+    OwnerSetsIndexed(Lent, u32),
+    /// The owner entry with this index, in the mode and the way of these numbers.
+    OwnersIndexed(Lent, u32, u32),
+    /// The boundary entry with this index, in the mode and the way of these numbers, asked for the polygon of the third.
+    BoundaryIndexed(Lent, u32, u32, u32),
+}
+
+/// Which index is lent, by the table's own; or by 12 zeros where there is none, since reading, the table or the envelope is refused.
+#[derive(Clone, Copy, PartialEq, Eq, Debug)]
+pub enum Lent {
+    /// The table's own.
+    Own,
+    /// The table's own with another byte at this place, counted round.
+    Changed(u16),
+    /// Without its last byte.
+    Shorter,
+    /// With a zero behind it.
+    Longer,
+    /// With its numbers as those of sides: the first side of each triangle that is named.
+    OfSides,
+    /// That of the table with its triangles in reverse order.
+    OfAnother,
+    /// No byte at all.
+    Empty,
+}
+
+impl Lent {
+    /// One of each kind; of changed bytes the one at this place.
+    pub fn every(place: u16) -> [Lent; 7] {
+        let others = [Lent::Shorter, Lent::Longer, Lent::OfSides, Lent::OfAnother, Lent::Empty];
+        [Lent::Own, Lent::Changed(place), others[0], others[1], others[2], others[3], others[4]]
+    }
 }
 
 /// What an entry would write if enough bytes were lent, and the item of its success.
@@ -81,12 +117,13 @@ pub fn whole(entry: Entry, input: &[u8]) -> Result<Success, Refusal> {
 pub struct Input<'a> {
     bytes: &'a [u8],
     judged: [OnceCell<Result<Judged, Refusal>>; Mode::COUNT as usize],
+    tables: [OnceCell<Result<Table, Refusal>>; Mode::COUNT as usize],
 }
 
 impl<'a> Input<'a> {
     /// The input of these bytes.
     pub fn new(bytes: &'a [u8]) -> Input<'a> {
-        Input { bytes, judged: Default::default() }
+        Input { bytes, judged: Default::default(), tables: Default::default() }
     }
 
     /// The sheet judged in this mode, or why there is none.
@@ -118,6 +155,16 @@ impl<'a> Input<'a> {
             Entry::BoundaryBy(mode, way, asked) => boundary(self.judged_by(mode)?, way, asked),
             Entry::ListingBy(mode, way) => Ok(counted(listing::of(self.judged_by(mode), way).into_bytes())),
             Entry::At(mode, way, x, y) => at(self.judged_by(mode)?, way, x, y),
+            Entry::Index(mode) => self.index(mode).map(counted),
+            Entry::OwnerSetsIndexed(lent, mode) => {
+                self.with_index(&self.lent(lent, mode), mode, Entry::OwnerSetsBy(mode))
+            }
+            Entry::OwnersIndexed(lent, mode, way) => {
+                self.with_index(&self.lent(lent, mode), mode, Entry::OwnersBy(mode, way))
+            }
+            Entry::BoundaryIndexed(lent, mode, way, asked) => {
+                self.with_index(&self.lent(lent, mode), mode, Entry::BoundaryBy(mode, way, asked))
+            }
         }
     }
 
@@ -135,6 +182,60 @@ impl<'a> Input<'a> {
         read.check_envelope()?;
         let areas = read.sheet.polygons.iter().map(member_double_area);
         Ok(Success { item: read.sheet.polygons.len() as u64, bytes: areas.flat_map(i64::to_le_bytes).collect() })
+    }
+
+    /// The index of a sheet's table, once the table has passed the rules and the envelope: 57, reading, 10, 11, 12, 52.
+    fn index(&self, mode: u32) -> Result<Vec<u8>, Refusal> {
+        self.table(mode).map(index)
+    }
+
+    fn table(&self, mode: u32) -> Result<&Table, Refusal> {
+        let mode = Mode::numbered(mode)?;
+        let checked = || {
+            let read = read_in(mode, self.bytes).map_err(|fault| fault.refusal)?;
+            let table = Table::check(&read.sheet.triangles)?;
+            read.check_envelope()?;
+            Ok(table)
+        };
+        self.tables[mode.number() as usize].get_or_init(checked).as_ref().map_err(|refusal| *refusal)
+    }
+
+    /// The bytes of an index that is lent in the mode of this number.
+    pub fn lent(&self, lent: Lent, mode: u32) -> Vec<u8> {
+        let table = self.table(mode);
+        let mut own = table.map_or(vec![0; 12], index);
+        match lent {
+            Lent::Own => {}
+            Lent::Changed(place) => {
+                let place = usize::from(place) % own.len();
+                own[place] = own[place].wrapping_add(1 + (place % 255) as u8);
+            }
+            Lent::Shorter => own.truncate(own.len() - 1),
+            Lent::Longer => own.push(0),
+            Lent::OfSides => {
+                for pair in own.chunks_exact_mut(2) {
+                    let number = u16::from_le_bytes([pair[0], pair[1]]);
+                    pair.copy_from_slice(&(3 * number).saturating_sub(2).to_le_bytes());
+                }
+            }
+            Lent::OfAnother => {
+                if let Ok(table) = table {
+                    let reversed: Vec<_> = table.triangles.iter().rev().copied().collect();
+                    own = index(&Table::check(&reversed).expect("the same triangles"));
+                }
+            }
+            Lent::Empty => own.clear(),
+        }
+        own
+    }
+
+    /// An entry's answer in the mode of this number where an index is lent: 53, right before 20, for one that differs from the table's
+    /// own in length or content.
+    pub fn with_index(&self, lent: &[u8], mode: u32, entry: Entry) -> Result<Success, Refusal> {
+        match self.index(mode)? == lent {
+            true => self.whole(entry),
+            false => Err(Refusal::new(53, 0)),
+        }
     }
 
     /// The packed answer that the numbers entry gives in this mode with room enough, and the position of the field at fault

@@ -31,6 +31,13 @@ impl Table {
     }
 }
 
+/// For each triangle and side, by triangle and then ab, bc, ca, the number of the triangle with the reversed side, 0 for none: a little-endian
+/// u16 each.
+pub fn index(table: &Table) -> Vec<u8> {
+    let across = |side| table.across(side).map_or(0, |place| place as u16 + 1);
+    table.triangles.iter().flat_map(sides).flat_map(|side| across(side).to_le_bytes()).collect()
+}
+
 /// Every side of every triangle with the triangle's place, in order of sides and then of places.
 pub fn sorted_sides(triangles: &[Triangle]) -> Vec<(Side, usize)> {
     let numbered = triangles.iter().enumerate();

@@ -27,6 +27,37 @@ extern "C" {
     fn sheet_listing_by(sheet: *const u8, sheet_len: usize, mode: u32, way: u32, out: *mut u8, out_len: usize) -> u64;
     fn sheet_write_blob(numbers: *const u8, numbers_len: usize, out: *mut u8, out_len: usize) -> u64;
     fn sheet_at(sheet: *const u8, sheet_len: usize, mode: u32, way: u32, x: i32, y: i32) -> u64;
+    fn sheet_index(sheet: *const u8, sheet_len: usize, mode: u32, out: *mut u8, out_len: usize) -> u64;
+    fn sheet_owner_sets_indexed(
+        sheet: *const u8,
+        sheet_len: usize,
+        index: *const u8,
+        index_len: usize,
+        mode: u32,
+        out: *mut u8,
+        out_len: usize,
+    ) -> u64;
+    fn sheet_owners_indexed(
+        sheet: *const u8,
+        sheet_len: usize,
+        index: *const u8,
+        index_len: usize,
+        mode: u32,
+        way: u32,
+        out: *mut u8,
+        out_len: usize,
+    ) -> u64;
+    fn sheet_boundary_indexed(
+        sheet: *const u8,
+        sheet_len: usize,
+        index: *const u8,
+        index_len: usize,
+        mode: u32,
+        way: u32,
+        polygon: u32,
+        out: *mut u8,
+        out_len: usize,
+    ) -> u64;
 }
 
 /// Room that is always enough for the numbers form of a sheet.
@@ -50,6 +81,8 @@ pub const BLOB_NUMBERS_ROOM: usize = 65_804;
 pub const WRITE_BLOB_ROOM: usize = 158_330;
 /// Room that is always enough for the double areas of a sheet's polygons.
 pub const AREAS_ROOM: usize = 512;
+/// Room that is always enough for the index of a sheet's table.
+pub const INDEX_ROOM: usize = 6_144;
 
 /// Free stack that a calling thread needs, in bytes.
 pub const STACK: usize = 655_360;
@@ -235,6 +268,22 @@ pub mod lent {
     pub fn at(sheet: &[u8], mode: u32, way: u32, x: i32, y: i32) -> Result<u64, Refusal> {
         unpacked(unsafe { sheet_at(sheet.as_ptr(), sheet.len(), mode, way, x, y) })
     }
+    /// The index of the table, read in the mode of this number, 6 bytes for each triangle; the item is the bytes.
+    pub fn index(sheet: &[u8], mode: u32, out: &mut [u8]) -> Result<u64, Refusal> {
+        call(out, |p, n| unsafe { sheet_index(sheet.as_ptr(), sheet.len(), mode, p, n) })
+    }
+    /// [`owner_sets_by`] with an index; 53 for one that isn't the table's own.
+    pub fn owner_sets_indexed(sheet: &[u8], index: &[u8], mode: u32, out: &mut [u8]) -> Result<u64, Refusal> {
+        call(out, |p, n| unsafe { sheet_owner_sets_indexed(sheet.as_ptr(), sheet.len(), index.as_ptr(), index.len(), mode, p, n) })
+    }
+    /// [`owners_by`] with an index.
+    pub fn owners_indexed(sheet: &[u8], index: &[u8], mode: u32, way: u32, out: &mut [u8]) -> Result<u64, Refusal> {
+        call(out, |p, n| unsafe { sheet_owners_indexed(sheet.as_ptr(), sheet.len(), index.as_ptr(), index.len(), mode, way, p, n) })
+    }
+    /// [`boundary_by`] with an index.
+    pub fn boundary_indexed(sheet: &[u8], index: &[u8], mode: u32, way: u32, polygon: u32, out: &mut [u8]) -> Result<u64, Refusal> {
+        call(out, |p, n| unsafe { sheet_boundary_indexed(sheet.as_ptr(), sheet.len(), index.as_ptr(), index.len(), mode, way, polygon, p, n) })
+    }
 }
 
 /// A point, x and y in millimetres.
@@ -396,6 +445,35 @@ pub fn owners_by(sheet: &[u8], mode: Mode, way: Way) -> Result<Vec<u8>, Refusal>
 /// [`boundary`] in a mode and a way.
 pub fn boundary_by(sheet: &[u8], mode: Mode, way: Way, polygon: u32) -> Result<Vec<(Point, Point)>, Refusal> {
     typed::boundary(|out| lent::boundary_by(sheet, mode as u32, way as u32, polygon, out))
+}
+
+/// The index of a sheet's table, to be kept beside the sheet: for each triangle and side the number of the triangle with the reversed side, 0 for none, as
+/// little-endian u16 by triangle and then ab, bc, ca. It is lent to [`owner_sets_indexed`], [`owners_indexed`] and [`boundary_indexed`].
+pub fn index(sheet: &[u8]) -> Result<Vec<u8>, Refusal> {
+    index_by(sheet, Mode::Present)
+}
+
+/// [`index`] in a mode.
+pub fn index_by(sheet: &[u8], mode: Mode) -> Result<Vec<u8>, Refusal> {
+    let mut out = vec![0; INDEX_ROOM];
+    let bytes = lent::index(sheet, mode as u32, &mut out)? as usize;
+    out.truncate(bytes);
+    Ok(out)
+}
+
+/// [`owner_sets_by`] with an index, which is refused 53 where it isn't the one of the sheet's table.
+pub fn owner_sets_indexed(sheet: &[u8], index: &[u8], mode: Mode) -> Result<Vec<u64>, Refusal> {
+    typed::owner_sets(|out| lent::owner_sets_indexed(sheet, index, mode as u32, out))
+}
+
+/// [`owners_by`] with an index.
+pub fn owners_indexed(sheet: &[u8], index: &[u8], mode: Mode, way: Way) -> Result<Vec<u8>, Refusal> {
+    typed::owners(|out| lent::owners_indexed(sheet, index, mode as u32, way as u32, out))
+}
+
+/// [`boundary_by`] with an index.
+pub fn boundary_indexed(sheet: &[u8], index: &[u8], mode: Mode, way: Way, polygon: u32) -> Result<Vec<(Point, Point)>, Refusal> {
+    typed::boundary(|out| lent::boundary_indexed(sheet, index, mode as u32, way as u32, polygon, out))
 }
 
 /// [`listing`] in a mode and a way.

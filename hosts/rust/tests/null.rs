@@ -21,6 +21,23 @@ macro_rules! entries {
     (number $asked:expr) => { u32 };
 }
 
+/// The answers of an entry that takes an index: the same without an index, and without room with the table's own.
+macro_rules! indexed {
+    ($index:expr; $($name:ident($($asked:expr),*) on $input:expr;)*) => {{
+        extern "C" {
+            $(fn $name(input: *const u8, size: usize, index: *const u8, length: usize, $(_: entries!(number $asked),)* out: *mut u8, room: usize) -> u64;)*
+        }
+        let mut room = [9; 64];
+        // SAFETY: each pointer that isn't null is one to so many bytes, which nothing else uses meanwhile.
+        vec![$((stringify!($name), unsafe {
+            let none = $name(null(), 0, null(), 0, $($asked,)* null_mut(), 0);
+            let no_index = $name($input.as_ptr(), $input.len(), null(), 0, $($asked,)* room.as_mut_ptr(), room.len());
+            let no_room = $name($input.as_ptr(), $input.len(), $index.as_ptr(), $index.len(), $($asked,)* null_mut(), 0);
+            [none, no_index, no_room]
+        }),)*]
+    }};
+}
+
 /// The entries that the header declares.
 fn declared() -> Vec<String> {
     let header = std::fs::read_to_string(concat!(env!("CARGO_MANIFEST_DIR"), "/../../include/sheets.h")).unwrap();
@@ -51,6 +68,13 @@ fn every_entry_answers_null_pointers_with_length_0() {
         sheet_boundary_by(1, 0, 1) on sheet;
         sheet_listing_by(1, 0) on sheet;
         sheet_write_blob() on of_blob;
+        sheet_index(1) on sheet;
+    };
+    let index = sheets::index(&sheet).unwrap();
+    let with_index = indexed! { index;
+        sheet_owner_sets_indexed(1) on sheet;
+        sheet_owners_indexed(1, 0) on sheet;
+        sheet_boundary_indexed(1, 0, 1) on sheet;
     };
     for (name, answers) in &answers {
         let wanted = match *name {
@@ -61,8 +85,11 @@ fn every_entry_answers_null_pointers_with_length_0() {
         };
         assert_eq!((name, answers), (name, &wanted));
     }
-    let lent = answers.iter().map(|(name, _)| name.to_string());
-    assert_eq!(lent.chain(["sheet_at".to_string()]).collect::<Vec<_>>(), declared());
+    for (name, answers) in &with_index {
+        assert_eq!((name, answers), (name, &[1, 53, 40]));
+    }
+    let names = answers.iter().chain(&with_index).map(|(name, _)| name.to_string());
+    assert_eq!(names.chain(["sheet_at".to_string()]).collect::<Vec<_>>(), declared());
 }
 
 /// The entry that is lent no bytes.

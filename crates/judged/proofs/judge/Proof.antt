@@ -6,6 +6,7 @@ use borrow.Author.Needs.{needs}
 use denote.Ref.{now}
 use lib.ListN.{length, getD, take, drop}
 use lib.Seq.{length-take-le}
+use Rattle.table_neighbours.specs.Neighbours.{lentIf}
 use Rattle.sheet_modes.specs.Modes.{framed}
 use Rattle.sheet_modes.specs.Held.{aroundOf}
 use Rattle.judged_sets.proofs.Standing.{first-count}
@@ -14,8 +15,8 @@ use Rattle.judged.proofs.judge.Statement.{statement}
 use Rattle.judged.proofs.judge.Tie as tie
 
 -- ---- places: the entry of the function, and the call of `judge_over`
-abbrev start : tie.After-shared-slice-known2 → tie.Start
-start c = c .before .before .before .before
+abbrev start : tie.After-shared-slice-known3 → tie.Start
+start c = c .before .before .before .before .before
 
 abbrev entry : tie.After-judge-over-arg2 → tie.Start
 entry c = start (c .before .before)
@@ -50,8 +51,8 @@ returns c = λ n held.
     let d = judge-over-call c in
     let o = entry (d .before) in
     let e : length (n .table) ≡ many o = omega (arith, first-count n (now (o .args .numbers)) held .1) in
-    let k = d .judge-over .kept .1 .1 in
-    on-fronts (framed (aroundOf (o .args .around)) n) n (d .judge-over .result) _ _ (drop (3 * many o) (now (o .args .opposite))) (drop (many o) (now (o .args .sets))) (d .judge-over .ensures n held (e ∙ sym (sets-front o)))
+    let k = d .judge-over .kept .1 .1 .1 .1 in
+    on-fronts (lentIf (o .args .indexed) (now (o .args .lent))) (framed (aroundOf (o .args .around)) n) n (d .judge-over .result) _ _ (drop (3 * many o) (now (o .args .opposite))) (drop (many o) (now (o .args .sets))) (d .judge-over .ensures n held (e ∙ sym (sets-front o)))
     (k .0 ∙ opposite-front o ∙ ap (λ t. 3 * t) (sym e)) (k .1 .0 ∙ sets-front o ∙ sym e)
 
 pub judge-spec : {M : Type 1} → statement M

@@ -11,7 +11,7 @@ use Rattle.judged.proofs.judge_few.Tie as tie
 
 -- ---- places: the entry of the function, where there are at most 192 sides
 abbrev start : tie.After-keys → tie.Start
-start c = c .before .before .before .before
+start c = c .before .before .before .before .before
 
 few : (o : tie.Start) → length (now (o .args .opposite)) ≤ 192
 few o = omega (arith, o .pre .1, o .pre .2)

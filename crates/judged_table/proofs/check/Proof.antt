@@ -17,7 +17,7 @@ use Rattle.judged_table.proofs.check.Tie as tie
 
 -- ---- places: the entry of the function, the corners laid down, their frame, its edges
 abbrev start : tie.After-corners → tie.Start
-start c = c .before .before .before .before .before .before .before
+start c = c .before .before .before .before .before .before .before .before
 
 abbrev corners-call : tie.After-frame-of → tie.After-corners
 corners-call c = c .before .before .before .before
@@ -47,7 +47,7 @@ framed c =
 
 corners-requires : tie.Need-corners-requires
 corners-requires c κs =
-    let p = c .before .before .before .before .before .before .pre .0 in
+    let p = c .before .before .before .before .before .before .before .pre .0 in
     (p .2 .held, (p .1 .table, counted memberNumbers (p .1 .polygons), p .2 .is, sym (p .3)))
 
 check-table-requires : tie.Need-check-table-requires

@@ -1,6 +1,7 @@
 -- `listing::print` meets its contract: a refusal is one line, a judged sheet goes on to its listing. Assumes nothing.
 use mathlib.Core.Path.{_≡_, sym, subst}
 use mathlib.Core.List.{List}
+use mathlib.Core.Option.{none}
 use Prim.Native.Nat.{ℕ, _*_, _≤_}
 use native.Mathlib.Omega.{arith}
 use borrow.Author.Needs.{needs}
@@ -42,7 +43,7 @@ known c {r = r} {after = after} e = subst (λ o. Put 0 (listing (start c .args .
 -- What stands in the three lists once there are owner sets, and that its fronts are there.
 standing : (c : tie.After-n) → let l = call c .judged .last .1 .1 in
     (j : Judged) × (comes (call c) ≡ value j) × (length (j .sheet .table) ≡ many c) × JudgedHeld j (l .0) (take (3 * many c) (l .1 .0)) (take (many c) (l .1 .1 .0))
-standing c = let k = call c .judged in stands (start (call c) .args .mode) (bytes (call c)) (k .result) _ _ _ (k .ensures) (many c) (c .n .given .1)
+standing c = let k = call c .judged in stands none (start (call c) .args .mode) (bytes (call c)) (k .result) _ _ _ (k .ensures) (many c) (c .n .given .1)
 
 few : (c : tie.After-n) → many c ≤ 1024
 few c = let s = standing c in omega (arith, s .2, s .3 .held .few)
@@ -65,7 +66,7 @@ returns c =
     let k = c .before .before .before .before .before .before in
     let j = k .before .before .before .before .before in
     let g = k .code .given in
-    (omega (arith, p .0), known j (refused-is (start j .args .mode) (bytes j) (j .judged .result) _ _ _ (j .judged .ensures) (g .0 .0) (g .0 .1 .0) (g .1)) (p .1))
+    (omega (arith, p .0), known j (refused-is none (start j .args .mode) (bytes j) (j .judged .result) _ _ _ (j .judged .ensures) (g .0 .0) (g .0 .1 .0) (g .1)) (p .1))
 
 returns-2 : tie.Need-returns-2
 returns-2 c =

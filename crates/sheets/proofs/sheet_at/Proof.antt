@@ -12,8 +12,8 @@ use Rattle.sheets.proofs.sheet_at.Tie as tie
 
 returns : tie.Need-returns
 returns c =
-    let s = c .before .before .before .before in
+    let s = c .before .before .before .before .before in
     c .before .answer .ensures .answer ∙ ap₂ (λ x y. answerOf (sheetAt (s .args .mode) (s .args .way) x y (now (s .args .sheet))) []) (toZ-ofZ {w = w32} (s .fits .x)) (toZ-ofZ {w = w32} (s .fits .y))
 
 pub sheet-at-spec : {M : Type 1} → statement M
-sheet-at-spec = tie.close (tie.spec (λ c. search needs) (λ c κs. search needs) returns)
+sheet-at-spec = tie.close (tie.spec (λ c. search needs) (λ c. search needs) (λ c κs. search needs) returns)

@@ -2,6 +2,7 @@
 -- stand at the fronts of the work arrays. Assumes nothing.
 use mathlib.Core.Path.{_≡_, sym, _∙_, ap, subst}
 use mathlib.Core.List.{List}
+use mathlib.Core.Option.{Option}
 use Prim.Native.Nat.{ℕ, _*_, _≤_}
 use native.Mathlib.Omega.{arith}
 use borrow.Author.Needs.{needs}
@@ -11,39 +12,43 @@ use lib.Seq.{length-take-le}
 use Rattle.lent.specs.Stages.{value, andThen}
 use Rattle.lent.specs.Answered.{Answered}
 use Rattle.lent.proofs.Answered.{answered-refusal}
-use Rattle.judged.specs.Judged.{Judged, judgedSheet}
+use Rattle.table_neighbours.specs.Neighbours.{lentIf}
+use Rattle.judged.specs.Judged.{Judged, judgedWith}
 use Rattle.judged.specs.Held.{JudgedHeld}
 use Rattle.judged.proofs.Standing.{stands, refused-is}
 use Rattle.outcomes.specs.Entries.{goesOn}
 use Rattle.sheets_answers.proofs.answer.Statement.{statement}
 use Rattle.sheets_answers.proofs.answer.Tie as tie
 
--- ---- places: the entry of the function, and the call of `judged`
-abbrev start : tie.After-judged → tie.Start
-start c = c .before .before .before .before .before .before
+-- ---- places: the entry of the function, and the call of `judged_with`
+abbrev start : tie.After-judged-with → tie.Start
+start c = c .before .before .before .before .before .before .before
 
-abbrev call : tie.After-n → tie.After-judged
+abbrev call : tie.After-n → tie.After-judged-with
 call c = c .before .before .before .before .before
 
-abbrev sheet : tie.After-judged → List ℕ
+abbrev sheet : tie.After-judged-with → List ℕ
 sheet c = now (start c .args .sheet)
 
-abbrev mode : tie.After-judged → ℕ
+abbrev index : tie.After-judged-with → Option (List ℕ)
+index c = lentIf (start c .args .asked .indexed) (now (start c .args .index))
+
+abbrev mode : tie.After-judged-with → ℕ
 mode c = start c .args .asked .mode
 
 -- The judged sheet that stands at the fronts of the three lists, and that it has at most 1,024 triangles.
-standing : (c : tie.After-n) → let l = call c .judged .last .1 .1 in let t = c .n .given .0 .0 in
-    (j : Judged) × (judgedSheet (mode (call c)) (sheet (call c)) ≡ value j) × (length (j .sheet .table) ≡ t) × JudgedHeld j (l .0) (take (3 * t) (l .1 .0)) (take t (l .1 .1 .0))
-standing c = let j = call c .judged in stands (mode (call c)) (sheet (call c)) (j .result) (j .last .1 .1 .0) (j .last .1 .1 .1 .0) (j .last .1 .1 .1 .1 .0) (j .ensures) (c .n .given .0 .0) (c .n .given .1)
+standing : (c : tie.After-n) → let l = call c .judged-with .last .1 .1 .1 .1 in let t = c .n .given .0 .0 in
+    (j : Judged) × (judgedWith (index (call c)) (mode (call c)) (sheet (call c)) ≡ value j) × (length (j .sheet .table) ≡ t) × JudgedHeld j (l .0) (take (3 * t) (l .1 .0)) (take t (l .1 .1 .0))
+standing c = let j = call c .judged-with in let l = j .last .1 .1 .1 .1 in stands (index (call c)) (mode (call c)) (sheet (call c)) (j .result) (l .0) (l .1 .0) (l .1 .1 .0) (j .ensures) (c .n .given .0 .0) (c .n .given .1)
 
 few : (c : tie.After-n) → c .n .given .0 .0 ≤ 1024
 few c = let (j, e, t, w) = standing c in omega (arith, w .held .few)
 
-sides-fit : (c : tie.After-n) → 3 * c .n .given .0 .0 ≤ length (call c .judged .last .1 .1 .1 .0)
-sides-fit c = omega (arith, few c, call c .judged .kept .1 .1 .1 .0)
+sides-fit : (c : tie.After-n) → 3 * c .n .given .0 .0 ≤ length (call c .judged-with .last .1 .1 .1 .1 .1 .0)
+sides-fit c = omega (arith, few c, call c .judged-with .kept .1 .1 .1 .1 .1 .0)
 
-sets-fit : (c : tie.After-n) → c .n .given .0 .0 ≤ length (call c .judged .last .1 .1 .1 .1 .0)
-sets-fit c = omega (arith, few c, call c .judged .kept .1 .1 .1 .1 .0)
+sets-fit : (c : tie.After-n) → c .n .given .0 .0 ≤ length (call c .judged-with .last .1 .1 .1 .1 .1 .1 .0)
+sets-fit c = omega (arith, few c, call c .judged-with .kept .1 .1 .1 .1 .1 .1 .0)
 
 go-on-requires : tie.Need-go-on-requires
 go-on-requires c κs = let (j, e, t, w) = standing (c .before .before .before .before .before) in (j, w)
@@ -53,10 +58,10 @@ returns c =
     let k = c .before in
     let j = k .before .before .before .before .before in
     let a = start j .args in
-    let l = j .judged .last .1 .1 in
+    let l = j .judged-with .last .1 .1 .1 .1 in
     let g = k .code .given in
     answered-refusal _ (now (a .out)) (g .0 .0) (g .0 .1 .0)
-    (ap (λ r. andThen r (goesOn (a .asked .way) (a .asked .wanted))) (refused-is (mode j) (sheet j) (j .judged .result) (l .0) (l .1 .0) (l .1 .1 .0) (j .judged .ensures) (g .0 .0) (g .0 .1 .0) (g .1)))
+    (ap (λ r. andThen r (goesOn (a .asked .way) (a .asked .wanted))) (refused-is (index j) (mode j) (sheet j) (j .judged-with .result) (l .0) (l .1 .0) (l .1 .1 .0) (j .judged-with .ensures) (g .0 .0) (g .0 .1 .0) (g .1)))
 
 returns-2 : tie.Need-returns-2
 returns-2 c =

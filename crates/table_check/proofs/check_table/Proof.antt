@@ -33,7 +33,7 @@ passed-same e = cc e
 
 -- ---- places: the entry of the function, and the calls of `sort`, `index_sides` and `outlined`
 abbrev start : tie.After-flat-triangle → tie.Start
-start c = c .before .before .before .before .before .before .before
+start c = c .before .before .before .before .before .before .before .before
 
 abbrev passing-A : tie.After-sort → tie.Else1
 passing-A c = c .before .before
@@ -85,7 +85,7 @@ front c = laid-front _ (ordered c) (now (entry c .args .ordered)) (c .sort .resu
 
 -- Corners and sides can be looked up where no side stands twice.
 abbrev IndexedAt : tie.After-index-sides → ℕ → Type 0
-IndexedAt c n = let s = sort-call c in Indexed (now (entry s .args .keys)) (take n (ordered s)) (c .index-sides .last .1 .1 .0) (c .index-sides .last .1 .1 .1 .0)
+IndexedAt c n = let s = sort-call c in Indexed (now (entry s .args .keys)) (take n (ordered s)) (c .index-sides .last .1 .1 .1 .0) (c .index-sides .last .1 .1 .1 .1 .0)
 
 indexed : (c : tie.Else2) → IndexedAt (index-call c) (sort-call (index-call c) .sort .result)
 indexed c = let d = index-call c in d .index-sides .ensures .1 (sides-once (outline (entry (sort-call d))) (table (entry (sort-call d))) (no-flat (passing-A (sort-call d))) (no-repeated c))

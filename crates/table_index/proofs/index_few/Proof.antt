@@ -7,10 +7,10 @@ use Rattle.table_index.proofs.index_few.Statement.{statement}
 use Rattle.table_index.proofs.index_few.Tie as tie
 
 slice-aggregate-lay-sides : tie.Need-slice-aggregate-lay-sides
-slice-aggregate-lay-sides c = sym (length-take-le _ _ (omega (arith, c .before .before .before .before .before .pre .2)))
+slice-aggregate-lay-sides c = sym (length-take-le _ _ (omega (arith, c .before .before .before .before .before .before .pre .2)))
 
 lay-sides-requires : tie.Need-lay-sides-requires
-lay-sides-requires c κs = let p = c .before .before .before .before .before .before .before .pre in (p .0, p .1, omega (arith, p .2), p .3, length-take-le _ _ (omega (arith, p .2)), p .4, p .5)
+lay-sides-requires c κs = let p = c .before .before .before .before .before .before .before .before .pre in (p .0, p .1, omega (arith, p .2), p .3, length-take-le _ _ (omega (arith, p .2)), p .4, p .5)
 
 pub index-few-spec : {M : Type 1} → statement M
 index-few-spec = tie.close (tie.spec (λ c. search needs) slice-aggregate-lay-sides lay-sides-requires (λ c. search needs) (λ c. search needs) (λ c. search needs))

@@ -22,7 +22,7 @@ use Rattle.table_index.proofs.lay_sides.Tie as tie
 
 -- ---- places: after each call the one before it, and the entry of the function
 abbrev start : tie.After-codes → tie.Start
-start c = c .before .before .before .before .before .before .before
+start c = c .before .before .before .before .before .before .before .before
 
 abbrev at-codes : tie.After-unlinked → tie.After-codes
 at-codes c = c .before .before .before .before .before
@@ -67,7 +67,7 @@ linked c = at-repeated c .repeated-side .ensures .1 (c .before .before .before .
 
 codes-requires : tie.Need-codes-requires
 codes-requires c κs =
-    let s = c .before .before .before .before .before .before in
+    let s = c .before .before .before .before .before .before .before in
     let k = now (s .args .keys) in
     (subst Ascending (sym (s .pre .3)) (ascending-is k), omega (arith, s .pre .2, ap length (s .pre .3), length-ascending k), s .pre .1, s .pre .4)
 
@@ -103,7 +103,7 @@ notes-requires c κs =
       subst Ascending (sym (start d .pre .3)) (ascending-is k),
       subst (All Key) (sym (start d .pre .3)) (all-ascending Key k (start d .pre .0)),
       subst (λ z. All (Within (length z)) (laid d)) (sym (start d .pre .3)) (subst (All (Within (length (ascending k)))) (sym (coded d)) (codes-within k (n d) (three d) (start d .pre .2))),
-      o .opposites .kept .1 .1 .0 ∙ start d .pre .6 ∙ sym (as-many d),
+      o .opposites .kept .1 .1 .1 .0 ∙ start d .pre .6 ∙ sym (as-many d),
       linked o .number,
       linked o .unnoted,
     )
@@ -117,7 +117,7 @@ returns-2 c =
     let k = keys d in
     let x = r .repeated-side .last .1 .0 in
     let y = m .notes .last .1 .1 .1 .0 in
-    let z = o .opposites .last .1 .1 .0 in
+    let z = o .opposites .last .1 .1 .1 .0 in
     let linked′ = subst (λ l. LinkedTo l x (length l)) (coded d) (linked o) in
     let noted = subst (λ l. NotedTo (ascending k) l x y (length l)) (coded d) (subst (λ l. NotedTo l (laid d) x y (length (laid d))) (start d .pre .3) (m .notes .ensures)) in (
       sym (o .before .before .before .before .if1 .left) ∙ repeat-is k (n d) (three d) (start d .pre .2) (r .repeated-side .result) (repeats r),

@@ -5,6 +5,7 @@ use beside::call;
 use independent::bridge::{before_call, with_point, Function};
 use sheets::{areas, at, at_by, boundary, listing, numbers, owner_sets, owners, position, verdict, write, write_blob};
 use sheets::{areas_by, boundary_by, listing_by, numbers_by, owner_sets_by, owners_by, position_by, verdict_by};
+use sheets::{boundary_indexed, index, index_by, owner_sets_indexed, owners_indexed};
 use sheets::{Mode, Point, Position, Refusal, Sheet, Verdict, Way};
 use std::io::{BufRead, BufReader, Read, Write};
 
@@ -44,10 +45,28 @@ fn answer(frames: &mut impl Read) -> Vec<u8> {
 
 /// The answer of a function on lent bytes, with these bytes after the call.
 fn lent(function: u8, asked: [u32; 3], point: Point, input: &[u8], room: usize) -> Vec<u8> {
-    let entry = Function::entry(function.into(), asked, point).expect("an entry");
     let mut lent: Vec<u8> = (0..room).map(before_call).collect();
-    let packed = packed(call(entry, input, &mut lent));
-    [&packed.to_le_bytes()[..], &lent].concat()
+    let answer = match function {
+        17..=19 => with_index(function, asked, input, &mut lent),
+        _ => call(Function::entry(function.into(), asked, point).expect("an entry"), input, &mut lent),
+    };
+    [&packed(answer).to_le_bytes()[..], &lent].concat()
+}
+
+/// The answer of a function on lent bytes that takes an index.
+fn with_index(function: u8, [mode, way, polygon]: [u32; 3], input: &[u8], out: &mut [u8]) -> Result<u64, Refusal> {
+    let (sheet, index) = parted(input);
+    match function {
+        17 => sheets::lent::owner_sets_indexed(sheet, index, mode, out),
+        18 => sheets::lent::owners_indexed(sheet, index, mode, way, out),
+        _ => sheets::lent::boundary_indexed(sheet, index, mode, way, polygon, out),
+    }
+}
+
+/// The sheet and the index of a frame's input.
+fn parted(input: &[u8]) -> (&[u8], &[u8]) {
+    let (length, rest) = input.split_at(4);
+    rest.split_at(u32::from_le_bytes(length.try_into().unwrap()) as usize)
 }
 
 /// The answer of a function that has its own room.
@@ -83,7 +102,19 @@ fn typed(function: u8, [mode_number, way_number, polygon]: [u32; 3], point: Poin
         14 => areas_by(input, mode).map(of_areas),
         15 if mode == Mode::Present && way == Way::Priority => at(input, point).map(of_owner),
         15 => at_by(input, mode, way, point).map(of_owner),
+        16 if mode == Mode::Present => index(input).map(counted),
+        16 => index_by(input, mode).map(counted),
+        17..=19 => typed_indexed(function, parted(input), mode, way, polygon),
         function => panic!("there is no function {function}"),
+    }
+}
+
+/// What a function with ordinary types answers that takes an index.
+fn typed_indexed(function: u8, (sheet, index): (&[u8], &[u8]), mode: Mode, way: Way, polygon: u32) -> Answer {
+    match function {
+        17 => owner_sets_indexed(sheet, index, mode).map(of_sets),
+        18 => owners_indexed(sheet, index, mode, way).map(counted),
+        _ => boundary_indexed(sheet, index, mode, way, polygon).map(of_sides),
     }
 }
 

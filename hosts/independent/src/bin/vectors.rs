@@ -1,10 +1,10 @@
 //! `vectors FILE [BRIDGE]`: compares every `call` and `listing` line of a vectors file with the independent answers, or
 //! with those of the library behind a bridge. An entry is named short (`sets`, and the polygon asked for as a number) or as
-//! it is exported (`sheet_owner_sets`, and what is asked as NAME=NUMBER,.. of `mode`, `way` and `polygon`, or `-`). Prints
-//! each difference and last `N passed, M failed`; the exit status is 1 if any failed.
+//! it is exported (`sheet_owner_sets`, and what is asked as NAME=NUMBER,.. of `mode`, `way` and `polygon`, or `-`; an index as
+//! `index=` and its bytes). Prints each difference and last `N passed, M failed`; the exit status is 1 if any failed.
 
 use independent::bridge::{start, Call, Function, Room};
-use independent::entries::{fit, Entry, Input, Success};
+use independent::entries::{fit, Entry, Input, Lent, Success};
 use independent::listing::LONGEST_INPUT;
 use independent::Refusal;
 use std::io::{BufReader, Write};
@@ -19,19 +19,19 @@ fn main() -> ExitCode {
     let (mut passed, mut failed) = (0, 0);
     for line in text.lines() {
         let words: Vec<&str> = line.split_whitespace().collect();
-        let (call, given) = match words[..] {
+        let (call, given, index) = match words[..] {
             ["input", new_name, hex] => {
                 (name, input) = (new_name.to_string(), unhex(hex));
                 continue;
             }
             ["call", entry, asked, room, packed, output] => {
-                (call(&name, entry, asked, room, packed, output), &input[..])
+                (call(&name, entry, asked, room, packed, output), &input[..], lent(asked))
             }
-            ["listing", hex] => (listing(&name, hex), &input[..input.len().min(LONGEST_INPUT)]),
+            ["listing", hex] => (listing(&name, hex), &input[..input.len().min(LONGEST_INPUT)], None),
             [] => continue,
             _ => panic!("unknown line {line}"),
         };
-        match difference(&call, given, &mut answers) {
+        match difference(&call, given, index.as_deref(), &mut answers) {
             None => passed += 1,
             Some(difference) => {
                 failed += 1;
@@ -57,13 +57,27 @@ impl Pipes {
 }
 
 /// The difference of the answer from the call's line, if any: the bridge's, or the independent one.
-fn difference(call: &Call, input: &[u8], pipes: &mut Option<Pipes>) -> Option<String> {
+fn difference(call: &Call, input: &[u8], index: Option<&[u8]>, pipes: &mut Option<Pipes>) -> Option<String> {
     if let Some(Pipes { frames, answers }) = pipes {
-        frames.write_all(&call.frame(input)).expect("the bridge takes a frame");
+        let framed = index.map(|index| [&(input.len() as u32).to_le_bytes()[..], input, index].concat());
+        frames.write_all(&call.frame(framed.as_deref().unwrap_or(input))).expect("the bridge takes a frame");
         return call.difference(answers);
     }
     let Room::Lent(room) = call.room else { panic!("a line has a room") };
-    let got = fit(call.function.whole(&Input::new(input)), room);
+    let input = Input::new(input);
+    let got = match (call.function, index) {
+        (Function::Entry(Entry::OwnerSetsIndexed(_, mode)), Some(index)) => {
+            input.with_index(index, mode, Entry::OwnerSetsBy(mode))
+        }
+        (Function::Entry(Entry::OwnersIndexed(_, mode, way)), Some(index)) => {
+            input.with_index(index, mode, Entry::OwnersBy(mode, way))
+        }
+        (Function::Entry(Entry::BoundaryIndexed(_, mode, way, polygon)), Some(index)) => {
+            input.with_index(index, mode, Entry::BoundaryBy(mode, way, polygon))
+        }
+        _ => call.function.whole(&input),
+    };
+    let got = fit(got, room);
     (got != call.expected).then(|| format!("file {:?}, independent {got:?}", call.expected))
 }
 
@@ -79,6 +93,11 @@ fn number(asked: &str, name: &str) -> u32 {
     let mut words = asked.split(',').filter_map(|word| word.split_once('='));
     let (_, number) = words.find(|(word, _)| *word == name).unwrap_or_else(|| panic!("no {name} in {asked}"));
     number.parse().unwrap_or_else(|_| panic!("no number in {asked}"))
+}
+
+/// The index among what is asked, if any.
+fn lent(asked: &str) -> Option<Vec<u8>> {
+    asked.split(',').find_map(|word| word.strip_prefix("index=")).map(unhex)
 }
 
 fn entry(name: &str, asked: &str) -> Entry {
@@ -99,6 +118,10 @@ fn entry(name: &str, asked: &str) -> Entry {
         "sheet_boundary_by" => Entry::BoundaryBy(mode(), way(), polygon()),
         "sheet_listing_by" => Entry::ListingBy(mode(), way()),
         "sheet_write_blob" => Entry::WriteBlob,
+        "sheet_index" => Entry::Index(mode()),
+        "sheet_owner_sets_indexed" => Entry::OwnerSetsIndexed(Lent::Own, mode()),
+        "sheet_owners_indexed" => Entry::OwnersIndexed(Lent::Own, mode(), way()),
+        "sheet_boundary_indexed" => Entry::BoundaryIndexed(Lent::Own, mode(), way(), polygon()),
         _ => panic!("unknown entry {name}"),
     }
 }

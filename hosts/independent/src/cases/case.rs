@@ -32,6 +32,8 @@ pub enum Outcome {
     Areas(Vec<i64>),
     /// At each of these points, by x and y, the owner after repair by priority, 0 where it belongs to no triangle.
     Owned(Vec<(i32, i32, u64)>),
+    /// Its index has these numbers, three for each triangle.
+    Index(Vec<u16>),
     /// The first in the present mode, the second in the older one.
     InModes(Box<Outcome>, Box<Outcome>),
     /// These numbers make up a sheet.

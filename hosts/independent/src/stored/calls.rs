@@ -2,15 +2,17 @@
 //!
 //! A frame is a byte for the entry (0 numbers, 1 write, 2 owner sets, 3 owners, 4 boundary, 5 listing, 6 position; 7 numbers, 8
 //! owner sets, 9 owners, 10 boundary, 11 listing by a mode and a way; 12 write blob; 13
-//! areas; 14 at a point), u32 length of the input, u32 number of lent
+//! areas; 14 at a point; 15 index; 16 owner sets, 17 owners, 18 boundary with an index), u32 length of the input, u32 number of lent
 //! bytes, and the input, little-endian; before a sheet that the boundary entry takes stands the polygon's number, a u32, before one that the
-//! position entry and the areas entry take the mode, a u32, and before one that those from 7 to 11 take mode, way and polygon, three u32, and before one that is asked at a point mode, way, x and y. A line has
+//! position entry, the areas entry and the index entry take the mode, a u32, before one that those from 7 to 11 take mode, way and polygon, three u32, before one that is
+//! asked at a point mode, way, x and y, and before one that those from 16 on take mode, way, polygon, the length of the index, a u32, and the index. A line has
 //! the packed answer, a blank, and a checksum of all lent bytes after the call, each 170 before it.
 //!
 //! The calls are few, chosen for what they try; `differ` makes those of all cases, on libsheets.a.
 
+use crate::bridge::Function;
 use crate::cases::{self, Case};
-use crate::entries::{fit, packed, whole, Entry, Success};
+use crate::entries::{fit, packed, whole, Entry, Input, Lent, Success};
 use crate::Refusal;
 use std::collections::BTreeMap;
 
@@ -44,13 +46,17 @@ const IN_WAYS: [&str; 3] = [
     "three sides on one line are 3 long, as long as a straight one, which has the larger number",
 ];
 
+/// Sheets that are called with every index: the strip sheet, and ones whose table or polygon is refused.
+const WITH_INDEXES: [&str; 3] = ["strip", "example 9 - without the last triangle", "example 2 - the same clockwise"];
+
 /// The calls: of each entry document 01's examples and the sheets of the folder examples/, the strip sheet with every room; and
 /// short cases of each code. The boundary entry is asked for polygon 1, and on the strip sheet for all others; the position entry
 /// in mode 0, and on the strip sheet in others. The entries in a mode are called in the older one with the sheets above and the
 /// shortest case of each code, and on the strip sheet in the present one, in way 1, and in modes and ways that aren't known. The entries
 /// in way 1 are called with the cases of it named above. In the modes of
 /// blobs they are called with the blobs above and the shortest of each code, of those that go on from a judged sheet of the codes
-/// that blobs alone have. The blob writer has all its cases.
+/// that blobs alone have. The blob writer has all its cases. The index entry and the set entry with the table's own index are called as the entries in a mode are;
+/// the strip sheet with every index, and a table and a polygon that are refused with indexes that aren't theirs.
 fn calls() -> Vec<Call> {
     let mut calls = Vec::new();
     let judging = [Entry::OwnerSets, Entry::Owners, Entry::Boundary(1), Entry::Listing];
@@ -68,6 +74,37 @@ fn calls() -> Vec<Call> {
         for case in chosen_blobs(entry) {
             calls.extend(with_rooms(entry, case));
         }
+    }
+    for entry in [Entry::Index(1), Entry::OwnerSetsIndexed(Lent::Own, 1)] {
+        for case in chosen_in_modes(entry) {
+            calls.extend(with_rooms(entry, case));
+        }
+    }
+    for entry in [Entry::Index(2), Entry::OwnerSetsIndexed(Lent::Own, 2)] {
+        for case in shortest(entry, Case::is_blob).into_values() {
+            calls.extend(with_rooms(entry, case));
+        }
+    }
+    for case in named(&WITH_INDEXES) {
+        let every = Lent::every(5).into_iter().chain([0, 1, 26, 47].map(Lent::Changed));
+        let entries = every.flat_map(|lent| [Entry::OwnerSetsIndexed(lent, 0), Entry::OwnersIndexed(lent, 0, 0)]);
+        let unknown = [Entry::Index(7), Entry::OwnerSetsIndexed(Lent::Empty, 7)];
+        let others = [Entry::OwnersIndexed(Lent::Empty, 7, 0), Entry::BoundaryIndexed(Lent::Empty, 7, 0, 1)];
+        let asked =
+            [(0, 0), (2, 0), (1, 1), (1, 2)].map(|(polygon, way)| Entry::BoundaryIndexed(Lent::Own, 1, way, polygon));
+        let asked = asked
+            .into_iter()
+            .chain([Entry::BoundaryIndexed(Lent::Longer, 0, 2, 9), Entry::OwnersIndexed(Lent::Own, 0, 2)]);
+        calls.extend(entries.chain(unknown).chain(others).chain(asked).map(|entry| Call {
+            entry,
+            input: case.input.clone(),
+            room: 200,
+        }));
+        calls.extend(
+            [Entry::OwnersIndexed(Lent::Own, 0, 0), Entry::BoundaryIndexed(Lent::Own, 0, 0, 1)]
+                .into_iter()
+                .flat_map(|entry| with_rooms(entry, case.clone())),
+        );
     }
     for case in cases::all().into_iter().filter(|case| case.is_of_blobs() && !case.is_blob()) {
         calls.extend(with_rooms(Entry::WriteBlob, case));
@@ -211,8 +248,17 @@ impl Call {
             Entry::WriteBlob => (12, vec![]),
             Entry::Areas(mode) => (13, vec![mode]),
             Entry::At(mode, way, x, y) => (14, vec![mode, way, x as u32, y as u32]),
+            Entry::Index(mode) => (15, vec![mode]),
+            Entry::OwnerSetsIndexed(_, mode) => (16, vec![mode, 0, 0]),
+            Entry::OwnersIndexed(_, mode, way) => (17, vec![mode, way, 0]),
+            Entry::BoundaryIndexed(_, mode, way, polygon) => (18, vec![mode, way, polygon]),
         };
-        let asked: Vec<u8> = asked.iter().flat_map(|number| number.to_le_bytes()).collect();
+        let mut asked: Vec<u8> = asked.iter().flat_map(|number| number.to_le_bytes()).collect();
+        if let Some((lent, mode)) = Function::Entry(self.entry).lent() {
+            let index = Input::new(&self.input).lent(lent, mode);
+            asked.extend((index.len() as u32).to_le_bytes());
+            asked.extend(index);
+        }
         let length = (asked.len() + self.input.len()) as u32;
         let head = [&[number][..], &length.to_le_bytes(), &(self.room as u32).to_le_bytes()].concat();
         [head, asked, self.input.clone()].concat()
@@ -270,8 +316,16 @@ mod tests {
         let repaired =
             [by(&by(&owners, &blobs), &[54]), by(&by(&boundary, &blobs), &[54]), vec![0, 40], vec![0, 40, 42]];
         let at = by(&by(&owners[..9], &owners[10..]), &[50, 51, 52, 54, 55, 57]);
-        let in_modes =
-            [&[by(&reading, &blobs), by(&judging, &blobs)][..], &repaired, &[by(&reading, &blobs), at]].concat();
+        let index = by(&by(&reading, &blobs), &[10, 11, 12]);
+        let indexed =
+            [by(&by(&judging, &blobs), &[53]), vec![0, 12, 20, 40, 53, 54, 57], vec![0, 12, 20, 40, 41, 53, 54, 57]];
+        let in_modes = [
+            &[by(&reading, &blobs), by(&judging, &blobs)][..],
+            &repaired,
+            &[by(&reading, &blobs), at, index],
+            &indexed,
+        ]
+        .concat();
         let wanted: Vec<Vec<u8>> = without.iter().map(|codes| codes.to_vec()).chain(in_modes).collect();
         let stored: BTreeSet<(u8, u8)> = tried().into_iter().map(|(entry, code, _)| (entry, code)).collect();
         let numbered = wanted.iter().enumerate();
@@ -281,7 +335,7 @@ mod tests {
 
     #[test]
     fn every_room_of_every_entry_is_stored() {
-        for entry in 0..14 {
+        for entry in 0..19 {
             let calls: Vec<_> = tried().into_iter().filter(|tried| tried.0 == entry).collect();
             assert!(calls.contains(&(entry, 0, Some(0))), "exact room for {entry}");
             assert!(calls.contains(&(entry, 0, Some(9))), "lent bytes past the answer for {entry}");
@@ -292,13 +346,14 @@ mod tests {
         let of = |less: fn(usize) -> usize| -> BTreeSet<u8> {
             calls().iter().filter(|call| short(call, less)).map(|call| call.frame()[0]).collect()
         };
-        assert_eq!((of(|length| length.wrapping_sub(1)), of(|_| 0)), ((0..14).collect(), (0..15).collect()));
+        let without = |entry: u8| (0..19).filter(move |&other| other != entry).collect();
+        assert_eq!((of(|length| length.wrapping_sub(1)), of(|_| 0)), (without(14), (0..19).collect()));
     }
 
     #[test]
     fn the_stored_input_is_small() {
         let (frames, lines) = frames_and_lines();
-        assert!(frames.len() < 380_000, "{} bytes", frames.len());
+        assert!(frames.len() < 520_000, "{} bytes", frames.len());
         assert!(lines.split(|byte| *byte == b'\n').count() > 200);
     }
 }

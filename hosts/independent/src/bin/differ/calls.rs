@@ -3,7 +3,7 @@
 use crate::inputs::{Given, Inputs};
 use independent::blob::Header;
 use independent::bridge::{Call, Function, Room, Takes};
-use independent::entries::{fit, Entry, Input, Success};
+use independent::entries::{fit, Entry, Input, Lent, Success};
 use independent::points::{in_dispute, to_ask};
 use independent::reading::{read_in, Mode};
 use independent::repair::WAYS;
@@ -51,7 +51,7 @@ impl Calls {
             let answer = function.whole(&inputs[takes as usize]);
             for (room, expected) in self.with_rooms(function, mixed(place, purpose as u64), every && own, answer) {
                 let call = Call { input: self.inputs.name(place), function, room, expected };
-                frames.extend(call.frame(given.of(takes)));
+                frames.extend(call.frame(&function.input(given.of(takes), &inputs[takes as usize])));
                 calls.push(call);
             }
         }
@@ -93,7 +93,8 @@ impl Calls {
             (Inputs::Largest(_), _) => {
                 let longest = vec![Entry::OwnersBy(0, 1), Entry::BoundaryBy(0, 1, asked[0]), Entry::ListingBy(0, 1)];
                 let in_mode_0 = vec![Entry::Position(0), Entry::Areas(0), Entry::WriteBlob];
-                [in_mode_0, longest, in_mode(1), in_mode(2), in_mode(3)].concat()
+                let indexed = Lent::every(place as u16).map(|lent| with_index(lent, 0, 1, asked[0])).concat();
+                [in_mode_0, indexed, vec![Entry::Index(0)], longest, in_mode(1), in_mode(2), in_mode(3)].concat()
             }
             (Inputs::Cases(_), _) if of_blobs => [in_mode(2), in_mode(3)].concat(),
             _ if !with_blob => self.by_some(place, asked[0]),
@@ -147,7 +148,9 @@ impl Calls {
                 Entry::OwnerSetsBy(mode),
                 Entry::Position(mode),
                 Entry::Areas(mode),
+                Entry::Index(mode),
             ]);
+            entries.extend(self.indexed(place, mode, no_way, polygons));
             for way in WAYS.into_iter().chain(no_way) {
                 entries.extend([Entry::OwnersBy(mode, way), Entry::ListingBy(mode, way)]);
                 let known = Some(mode) != no_mode && Some(way) != no_way;
@@ -164,7 +167,8 @@ impl Calls {
         let mode = self.chosen(place, 101, &MODES, &NO_MODES);
         let read = [Entry::Position(0), Entry::NumbersBy(1), Entry::Position(mode), Entry::Areas(0), Entry::Areas(1)];
         let unknown = Some(Entry::Areas(mode)).filter(|_| mode > 1);
-        read.into_iter().chain(unknown).chain([self.one(place, 103, mode, polygon)]).collect()
+        let index = [Entry::Index(mode), self.one_indexed(place, 107, mode, polygon)];
+        read.into_iter().chain(unknown).chain(index).chain([self.one(place, 103, mode, polygon)]).collect()
     }
 
     /// The blob writer, and of a blob the numbers, the position and one of the other entries, each in one of both modes, and the areas
@@ -173,7 +177,8 @@ impl Calls {
         let [first, second] = [104, 105].map(|purpose| BLOB_MODES[mixed(place, purpose) as usize % 2]);
         let other = self.one(place, 106, second, polygon);
         let areas = BLOB_MODES.map(Entry::Areas);
-        [&[Entry::WriteBlob, Entry::NumbersBy(first), Entry::Position(second), other][..], &areas].concat()
+        let index = [Entry::Index(first), self.one_indexed(place, 108, second, polygon)];
+        [&[Entry::WriteBlob, Entry::NumbersBy(first), Entry::Position(second), other][..], &areas, &index].concat()
     }
 
     /// One of the known numbers, mostly the last, or one that isn't known.
@@ -194,6 +199,29 @@ impl Calls {
         }
     }
 
+    /// The entries that take an index, in this mode, each with every index, and with one of them in every way and for
+    /// some of the polygons.
+    fn indexed(&self, place: u64, mode: u32, no_way: Option<u32>, polygons: &[u32]) -> Vec<Entry> {
+        let one = mixed(place, 109);
+        let every = Lent::every((one >> 8) as u16);
+        let mut entries = every.map(|lent| with_index(lent, mode, 0, polygons[0])).concat();
+        let lent = every[one as usize % 3];
+        for way in WAYS.into_iter().chain(no_way) {
+            entries.push(Entry::OwnersIndexed(lent, mode, way));
+            entries.extend(polygons[..3].iter().map(|polygon| Entry::BoundaryIndexed(lent, mode, way, *polygon)));
+        }
+        entries
+    }
+
+    /// One of the entries that take an index, in this mode: mostly with the table's own.
+    fn one_indexed(&self, place: u64, purpose: u64, mode: u32, polygon: u32) -> Entry {
+        let number = mixed(place, purpose);
+        let every = Lent::every((number >> 16) as u16);
+        let lent = every.get(number as usize % 12).copied().unwrap_or(Lent::Own);
+        let way = self.chosen(place, 102, &WAYS, &NO_WAYS);
+        with_index(lent, mode, way, polygon)[(number >> 8) as usize % 3]
+    }
+
     /// What the functions take; of the writers' numbers a wrapper takes whole ones.
     fn given(&self, place: u64) -> Given {
         let mut given = self.inputs.given(place);
@@ -209,7 +237,15 @@ impl Calls {
 /// Each entry that takes a mode, in this one.
 fn in_mode(mode: u32) -> Vec<Entry> {
     let read = [Entry::Position(mode), Entry::NumbersBy(mode), Entry::Areas(mode), Entry::OwnerSetsBy(mode)];
-    [&read[..], &[Entry::OwnersBy(mode, 0), Entry::BoundaryBy(mode, 0, 1), Entry::ListingBy(mode, 0)]].concat()
+    let judged =
+        [Entry::OwnersBy(mode, 0), Entry::BoundaryBy(mode, 0, 1), Entry::ListingBy(mode, 0), Entry::Index(mode)];
+    [&read[..], &judged, &with_index(Lent::Own, mode, 0, 1)].concat()
+}
+
+/// Each entry that takes an index, with this one.
+fn with_index(lent: Lent, mode: u32, way: u32, polygon: u32) -> Vec<Entry> {
+    let owners = Entry::OwnersIndexed(lent, mode, way);
+    vec![Entry::OwnerSetsIndexed(lent, mode), owners, Entry::BoundaryIndexed(lent, mode, way, polygon)]
 }
 
 /// A number that a place and a purpose fix.

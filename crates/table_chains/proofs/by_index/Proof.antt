@@ -1,5 +1,5 @@
--- `table_chains::opposites` meets its contract. The invariant: for each of the first i codes the number laid down is that of the last side with the code turned. Where
--- no code stands twice that is its number. Assumes nothing.
+-- `table_chains::by_index` meets its contract. The invariant: where no code stands twice, the number laid down for each of the first i codes is that of the code turned.
+-- Assumes nothing.
 use mathlib.Core.Path.{_≡_, refl, sym, _∙_, ap, subst}
 use mathlib.Core.List.{List, [], _∷_, map}
 use Prim.Native.Nat.{ℕ, zero, suc, _+_, _-_, _≤_, _<_}
@@ -9,23 +9,21 @@ use denote.Ref.{now}
 use lib.ListN.{length, getD, set, length-set, length-map}
 use lib.Seq.{getD-set-same, getD-set-other, ext-getD}
 use Rattle.whole.proofs.Sums.{all-at}
+use Rattle.whole_order.specs.Ascending.{Distinct}
 use Rattle.table_sides.specs.Codes.{turned, numberIn, turnedIn}
-use Rattle.table_sides.specs.Chains.{Last, ChainedTo}
-use Rattle.table_sides.proofs.Chains.{last-number}
 use Rattle.table_chains.specs.Linking.{Within}
-use Rattle.table_chains.proofs.Linking.{linked-last}
-use Rattle.table_chains.proofs.opposites.Statement.{statement}
-use Rattle.table_chains.proofs.opposites.Tie as tie
+use Rattle.table_chains.proofs.by_index.Statement.{statement}
+use Rattle.table_chains.proofs.by_index.Tie as tie
 
 abbrev Inv-loop : tie.InvT-loop
-Inv-loop index codes opposite₀ i₀ opposite i = (i ≤ length codes) × (length opposite ≡ length opposite₀) × ((j : ℕ) → j < i → Last (λ m. getD codes m 0 ≡ turned (getD codes j 0)) (length codes) (getD opposite j 0))
+Inv-loop index codes lent opposite₀ i₀ opposite i = (i ≤ length codes) × (length opposite ≡ length opposite₀) × ((j : ℕ) → j < i → Distinct codes → getD opposite j 0 ≡ numberIn (turned (getD codes j 0)) codes)
 
 abbrev μ-loop : tie.MeasureT-loop
-μ-loop index codes opposite₀ i₀ opposite i = length codes - i
+μ-loop index codes lent opposite₀ i₀ opposite i = length codes - i
 
 -- ---- places: the entry of the function
 abbrev start : tie.At-loop Inv-loop μ-loop → tie.Start Inv-loop μ-loop
-start c = c .before .before .before .before
+start c = c .before .before .before .before .before
 
 -- The places of the two corners of side i.
 within : (c : tie.At-loop Inv-loop μ-loop) → c .loop .i < length (now (start c .args .codes)) → Within (length (now (start c .args .codes))) (getD (now (start c .args .codes)) (c .loop .i) 0)
@@ -40,27 +38,26 @@ map-at f (x ∷ l) (suc i) h = map-at f l i (omega arith)
 loop-holds : tie.Need-loop-holds Inv-loop μ-loop
 loop-holds c = (omega arith, refl, λ j h. absurd (omega arith))
 
-add-side-of : tie.Need-add-side-of Inv-loop μ-loop
-add-side-of c = let l = c .before .before .before in omega (arith, within l (omega arith), start l .pre .1)
+add-code : tie.Need-add-code Inv-loop μ-loop
+add-code c = let l = c .before .before .before in omega (arith, within l (omega arith), start l .pre .1)
 
-side-of-requires : tie.Need-side-of-requires Inv-loop μ-loop
-side-of-requires c κs =
+reverse-requires : tie.Need-reverse-requires Inv-loop μ-loop
+reverse-requires c κs =
     let l = c .before .before .before in
     let s = start l in
     let w = within l (omega arith) in
-    (subst (ChainedTo (now (s .args .index))) (sym (s .pre .2 .number)) (s .pre .2 .chained), omega (arith, w .0, w .1, s .pre .1, s .pre .2 .number))
+    (omega (arith, s .pre .1), s .pre .1, (omega (arith, w .0, w .1, s .pre .1), omega (arith, w .0, w .1, s .pre .1)), s .pre .2)
 
 loop-again : tie.Need-loop-again Inv-loop μ-loop
 loop-again c =
     let l = c .before .before .before .before in
     let s = start l in
     let codes = now (s .args .codes) in
-    let r = c .side-of .result in
-    let v = linked-last codes (now (s .args .index)) (turned (getD codes (l .loop .i) 0)) r (s .pre .2) (c .side-of .ensures) in
-    let laid : (j : ℕ) → j < l .loop .i + 1 → Dec (j ≡ l .loop .i) → Last (λ m. getD codes m 0 ≡ turned (getD codes j 0)) (length codes) (getD (set (l .loop .opposite) (l .loop .i) r) j 0)
-    = λ j h d. elim d [
-      | (yes e) ↦ rw (e, getD-set-same (l .loop .opposite) (l .loop .i) r 0 (omega (arith, l .loop .inv .1, s .pre .3))) v
-      | (no n) ↦ rw (getD-set-other (l .loop .opposite) (l .loop .i) j r 0 n) (l .loop .inv .2 j (omega arith))
+    let r = c .reverse .result in
+    let laid : (j : ℕ) → j < l .loop .i + 1 → Dec (j ≡ l .loop .i) → Distinct codes → getD (set (l .loop .opposite) (l .loop .i) r) j 0 ≡ numberIn (turned (getD codes j 0)) codes
+    = λ j h d once. elim d [
+      | (yes e) ↦ rw (e, getD-set-same (l .loop .opposite) (l .loop .i) r 0 (omega (arith, l .loop .inv .1, s .pre .3))) (c .reverse .ensures once)
+      | (no n) ↦ rw (getD-set-other (l .loop .opposite) (l .loop .i) j r 0 n) (l .loop .inv .2 j (omega arith) once)
     ] in
     (omega arith, length-set (l .loop .opposite) (l .loop .i) r ∙ l .loop .inv .1, λ j h. laid j h (ℕ-discrete j (l .loop .i)))
 
@@ -71,10 +68,10 @@ returns c = λ d.
     ext-getD 0 (l .loop .opposite) (turnedIn codes) (l .loop .inv .1 ∙ start l .pre .3 ∙ sym (length-map codes (λ x. numberIn (turned x) codes)))
     (λ i h.
     let k : i < length codes = omega (arith, l .loop .inv .1, start l .pre .3) in
-    last-number codes (turned (getD codes i 0)) (getD (l .loop .opposite) i 0) d (l .loop .inv .2 i (omega arith)) ∙ sym (map-at (λ x. numberIn (turned x) codes) codes i k))
+    l .loop .inv .2 i (omega arith) d ∙ sym (map-at (λ x. numberIn (turned x) codes) codes i k))
 
-pub opposites-spec : {M : Type 1} → statement M
-opposites-spec =
+pub by-index-spec : {M : Type 1} → statement M
+by-index-spec =
     tie.close
     (tie.spec
     Inv-loop
@@ -85,10 +82,10 @@ opposites-spec =
     (λ c. omega arith)
     (λ c. omega arith)
     (λ c. omega arith)
-    add-side-of
-    side-of-requires
+    add-code
+    reverse-requires
     (λ c. omega arith)
-    (λ c. omega (arith, c .before .before .before .before .loop .inv .1, start (c .before .before .before .before) .pre .3))
+    (λ c. let l = c .before .before .before .before in omega (arith, l .loop .inv .1, start l .pre .3))
     (λ c. omega arith)
     (λ c. omega arith)
     loop-again

@@ -1,0 +1,2 @@
+-- The laws of a sheet without its polygons.
+pub mod Bare
