@@ -3,7 +3,7 @@ use mathlib.Core.Path.{_≡_}
 use mathlib.Core.Bool.{Bool, true}
 use mathlib.Core.List.{List, map}
 use mathlib.Core.Option.{Option, none}
-use Prim.Native.Nat.{ℕ, _*_}
+use Prim.Native.Nat.{ℕ, _*_, _/_, _≤_, min}
 use lib.ListN.{length, take}
 use Rattle.plane.specs.Boundaries.{sidesOf}
 use Rattle.lent.specs.Stages.{Answer, value, refused}
@@ -13,6 +13,7 @@ use Rattle.owners_marks.specs.Sets.{ownersOf}
 use Rattle.sheet_form.specs.Numbers.{Sheet, members}
 use Rattle.sheet.specs.Held.{SheetHeld}
 use Rattle.sheet_turned.specs.Rings.{RingsFit}
+use Rattle.sheet_modes.specs.Held.{Room}
 use Rattle.judged_sets.specs.declared.Owning.{Owning}
 use Rattle.judged_sets.specs.declared.Owning.the-variants.{Sets, Refused}
 use Rattle.judged.specs.Judged.{Judged, judgeIndexed, judgedWith}
@@ -35,6 +36,10 @@ pub record JudgedHeld (j : Judged) (numbers opposite sets : List ℕ) : Type 0 w
   pub crossed : opposite ≡ opposites (sidesOf (j .sheet .table))
   pub sets-are : sets ≡ map setOf (j .owners)
   pub owners-are : map ownersOf sets ≡ j .owners
+
+-- The three lists have room for what any sheet of these bytes comes to: for the largest sheet, or for a number to four bytes and six numbers to a triangle.
+abbrev pub Rooms : List ℕ → List ℕ → List ℕ → List ℕ → Type 0
+Rooms s numbers opposite sets = Room s numbers × (min 3072 (length s / 8) ≤ length opposite) × (min 1024 (length s / 24) ≤ length sets)
 
 -- The answer with its three lists is what the bytes come to in the mode, with an index or none: a judged sheet of t triangles, held at the fronts of the lists, or the
 -- refusal.

@@ -1,6 +1,6 @@
 // From bytes to a judged sheet: reading in a mode, the table rules, the envelope, an index that is lent, and the judging of the polygons in number order.
 ghost use mathlib.Core.Path.{_≡_};
-ghost use Prim.Native.Nat.{_*_, _≤_};
+ghost use Prim.Native.Nat.{_*_, _/_, _≤_, min};
 ghost use lib.ListN.{length};
 ghost use mathlib.Core.Option.{none};
 ghost use Rattle.table_neighbours.specs.Neighbours.{lentIf};
@@ -10,7 +10,7 @@ ghost use Rattle.judged_table.specs.Checked.{Lists};
 ghost use Rattle.sheet_modes.specs.Modes.{framed};
 ghost use Rattle.sheet_modes.specs.Held.{aroundOf};
 ghost use Rattle.judged.specs.Judging.{OwnedOf};
-ghost use Rattle.judged.specs.Held.{JudgedAs};
+ghost use Rattle.judged.specs.Held.{Rooms, JudgedAs};
 use judged_sets::Owning;
 use plane::OFFSET;
 use sheet_modes::Around;
@@ -133,7 +133,7 @@ pub fn judge(
     opposite: &mut [usize],
     sets: &mut [u64],
 ) -> Owning
-    requires { ⌜ ((n : Sheet) × SheetHeld members n (now numbers)) × (3072 ≤ length (now opposite)) × (1024 ≤ length (now sets)) ⌝ }
+    requires { ⌜ ((n : Sheet) × SheetHeld members n (now numbers)) × (min 3072 (length (now numbers) / 2) ≤ length (now opposite)) × (min 1024 (length (now numbers) / 6) ≤ length (now sets)) ⌝ }
     ensures { λ r. ⌜ ((n : Sheet) → SheetHeld members n (now (numbers .entry)) → OwnedOf (lentIf indexed (now (lent .entry))) (framed (aroundOf around) n) n r (now (opposite .exit)) (now (sets .exit))) ⌝ }
 {
     let t = (numbers[0] - OFFSET) as usize;
@@ -159,7 +159,7 @@ pub fn judged_with(
     opposite: &mut [usize],
     sets: &mut [u64],
 ) -> Owning
-    requires { ⌜ (16450 ≤ length (now numbers)) × (3072 ≤ length (now opposite)) × (1024 ≤ length (now sets)) ⌝ }
+    requires { ⌜ Rooms (now sheet) (now numbers) (now opposite) (now sets) ⌝ }
     ensures { λ r. ⌜ JudgedAs (lentIf indexed (now (lent .entry))) mode (now (sheet .entry)) r (now (numbers .exit)) (now (opposite .exit)) (now (sets .exit)) ⌝ }
 {
     match sheet_modes::read(sheet, mode, numbers) {
@@ -176,7 +176,7 @@ pub fn judged(
     opposite: &mut [usize],
     sets: &mut [u64],
 ) -> Owning
-    requires { ⌜ (16450 ≤ length (now numbers)) × (3072 ≤ length (now opposite)) × (1024 ≤ length (now sets)) ⌝ }
+    requires { ⌜ Rooms (now sheet) (now numbers) (now opposite) (now sets) ⌝ }
     ensures { λ r. ⌜ JudgedAs none mode (now (sheet .entry)) r (now (numbers .exit)) (now (opposite .exit)) (now (sets .exit)) ⌝ }
 {
     judged_with(sheet, mode, false, &[0u8; 0], numbers, opposite, sets)

@@ -21,13 +21,10 @@ use Rattle.sheet.specs.declared.Turn.{Turn}
 use Rattle.sheet.specs.declared.Turn.the-variants.{On, Over}
 use Rattle.sheet.specs.Going.{Leads}
 use Rattle.sheet.specs.Behind.{counts, closed}
+use Rattle.sheet.specs.Rings.{Nearer}
 use Rattle.sheet.proofs.Counts.{same-renewed}
 use Rattle.sheet.proofs.Rows.{renewed-stays}
 use Rattle.sheet.proofs.Onward.{Goes, is-refused}
-
--- From c the steps lead to d: in the polygon, or behind it.
-abbrev pub Nearer : Cursor → Cursor → Type 0
-Nearer c d = (0 < d .rings + d .points → counts (closed d) ≡ counts (closed c)) × (d .rings + d .points ≡ 0 → counts d ≡ counts (closed c))
 
 pub nearer : (c d e : Cursor) → 0 < d .rings + d .points → Nearer c d → Nearer d e → Nearer c e
 nearer c d e l h k = (λ o. k .0 o ∙ h .0 l, λ z. k .1 z ∙ h .0 l)
@@ -40,7 +37,7 @@ Inside c (End d) = ⊥
 Inside c (Refused code item field d) = code ≡ 0 → ⊥
 
 -- ---- a ring's count
-ring-some : (c : Cursor) (n : ℕ) → ringFits c n ≡ true → 0 < n
+pub ring-some : (c : Cursor) (n : ℕ) → ringFits c n ≡ true → 0 < n
 unfolding ringFits
 ring-some c n =
     by-equal (λ (b : Bool). b ≡ true → 0 < n) (eqb (c .member) 1) _ _ (λ e f. let z = eqb-true n 4 f in omega arith)
@@ -49,6 +46,10 @@ ring-some c n =
 ring-nearer : (c : Cursor) (n : ℕ) → 0 < n → Nearer c (withPoints n c)
 unfolding closed withPoints
 ring-nearer c n l = (λ o. same-renewed _ _ refl, λ z. absurd (omega arith))
+
+pub ring-open : (c : Cursor) (n : ℕ) → 0 < n → 0 < withPoints n c .rings + withPoints n c .points
+unfolding withPoints
+ring-open c n l = omega arith
 
 -- ---- a point
 renewed-open : (c : Cursor) → (renewed c .rings ≡ c .rings) × (renewed c .points ≡ c .points)

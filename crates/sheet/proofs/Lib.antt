@@ -8,7 +8,9 @@ pub mod Rows
 pub mod Opened
 pub mod Closed
 pub mod Onward
+mod Reaching
 pub mod Finish
 pub mod Sized
 pub mod Fit
+pub mod Paid
 pub mod Refusals

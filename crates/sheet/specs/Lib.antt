@@ -2,5 +2,6 @@
 pub mod Reading
 pub mod Going
 pub mod Behind
+pub mod Rings
 pub mod Read
 pub mod Held

@@ -3,6 +3,7 @@ ghost use mathlib.Core.Path.{_≡_};
 ghost use mathlib.Core.Bool.{cond};
 ghost use mathlib.Core.List.{List};
 ghost use Prim.Native.Nat.{ℕ, _+_, _≤_, _<_, _^_};
+ghost use lib.Dec.{ltb};
 ghost use lib.ListN.{set};
 ghost use Rattle.plane.specs.Corners.{offset};
 ghost use Rattle.sheet.specs.Reading;
@@ -11,6 +12,10 @@ ghost use Rattle.sheet_coordinate.specs.Coordinate.{coordinateOf};
 ghost use Rattle.wkb.specs.declared.Step.the-variants.{Point};
 ghost use Rattle.sheet.specs.Going.{laid, Shows, Turned, Within, Ready, Leads, Follows, readOf};
 ghost use Rattle.sheet.specs.Behind.{closed, behindAll, Begins, Row, To, Past};
+ghost use Rattle.sheet.specs.Rings.{Reaches};
+use lent_fields::double;
+use lent_fields::remain;
+use lent_fields::word;
 use plane::OFFSET;
 use sheet_coordinate::Coordinate;
 use wkb::Cursor;
@@ -32,6 +37,12 @@ pub struct Build {
 pub enum Turn {
     On(Cursor, Build),
     Over(u32, u32, usize),
+}
+
+// A place that was reached, and what was read up to it.
+pub struct Reached {
+    pub place: Cursor,
+    pub build: Build,
 }
 
 // How reading ends: with a sheet of so many numbers, or a refusal with its number, its item and the byte that the field at fault begins at.
@@ -242,14 +253,104 @@ fn taken(c: Cursor, b: Build, a: Step, numbers: &mut [u32]) -> Turn
     }
 }
 
-// The rings and points of an open polygon, all of them.
+// A ring or a point of the open polygon is to come.
+fn is_open(c: Cursor) -> bool
+    ensures { λ r. ⌜ r ≡ ltb 0 (c .rings + c .points) ⌝ }
+{
+    if 0 < c.rings {
+        return true;
+    }
+    0 < c.points
+}
+
+// A ring's count, where one is to come; nothing where it is at fault.
+fn count(s: &[u8], c: Cursor, b: Build, numbers: &mut [u32]) -> Reached
+    requires { ⌜ Within (now s) c b × (0 < c .rings + c .points) ⌝ }
+    ensures { λ r. ⌜ Reaches (now (s .entry)) c b (now (numbers .entry)) r (now (numbers .exit)) × (0 < r .place .rings + r .place .points) ⌝ }
+{
+    let here = Reached { place: c, build: b };
+    if 0 < c.points {
+        return here;
+    }
+    if !remain(s, c.at, 4) {
+        return here;
+    }
+    let n = word(s, c.at, c.little);
+    if !c.ring_fits(n) {
+        return here;
+    }
+    Reached {
+        place: c.with_points(n),
+        build: ringing(c, n, b, numbers),
+    }
+}
+
+// A point; nothing where it is at fault.
+fn point(s: &[u8], c: Cursor, b: Build, numbers: &mut [u32]) -> Reached
+    requires { ⌜ Within (now s) c b × (0 < c .points) ⌝ }
+    ensures { λ r. ⌜ Reaches (now (s .entry)) c b (now (numbers .entry)) r (now (numbers .exit)) ⌝ }
+{
+    let here = Reached { place: c, build: b };
+    if !remain(s, c.at, 16) {
+        return here;
+    }
+    let Coordinate::Whole(x) = sheet_coordinate::judge(double(s, c.at, c.little)) else {
+        return here;
+    };
+    let Coordinate::Whole(y) = sheet_coordinate::judge(double(s, c.at + 8, c.little)) else {
+        return here;
+    };
+    if differs(c, x, y, b) {
+        return here;
+    }
+    Reached {
+        place: c.after_point(),
+        build: pointing(c, x, y, b, numbers),
+    }
+}
+
+// The points of the open ring, up to one that is at fault.
+fn points(s: &[u8], from: Cursor, had: Build, numbers: &mut [u32]) -> Reached
+    requires { ⌜ Within (now s) from had × (0 < from .rings + from .points) ⌝ }
+    ensures { λ r. ⌜ Reaches (now (s .entry)) from had (now (numbers .entry)) r (now (numbers .exit)) ⌝ }
+{
+    let mut c = from;
+    let mut b = had;
+    while 0 < c.points {
+        let at = c.at;
+        let reached = point(s, c, b, numbers);
+        c = reached.place;
+        b = reached.build;
+        if c.at <= at {
+            break;
+        }
+    }
+    Reached { place: c, build: b }
+}
+
+// A ring's count and its points, or what is left of the open ring, up to a fault. It is what as many steps come to, without handing each place on.
+fn ring(s: &[u8], c: Cursor, b: Build, numbers: &mut [u32]) -> Reached
+    requires { ⌜ Within (now s) c b × (0 < c .rings + c .points) ⌝ }
+    ensures { λ r. ⌜ Reaches (now (s .entry)) c b (now (numbers .entry)) r (now (numbers .exit)) ⌝ }
+{
+    let counted = count(s, c, b, numbers);
+    points(s, counted.place, counted.build, numbers)
+}
+
+// The rings and points of an open polygon, all of them: ring by ring, and by a step where a field is at fault.
 fn rings(s: &[u8], from: Cursor, had: Build, numbers: &mut [u32]) -> Turn
     requires { ⌜ Within (now s) from had × (0 < from .rings) ⌝ }
     ensures { λ r. ⌜ Follows (now (s .entry)) from had (now (numbers .entry)) (from .at) r (now (numbers .exit)) × To (closed from) r ⌝ }
 {
     let mut c = from;
     let mut b = had;
-    while 0 < c.rings || 0 < c.points {
+    while is_open(c) {
+        let reached = ring(s, c, b, numbers);
+        c = reached.place;
+        b = reached.build;
+        if !is_open(c) {
+            return Turn::On(c, b);
+        }
         let told = c.step(s);
         let a = told.step;
         let t = taken(c, b, a, numbers);

@@ -3,10 +3,10 @@ use mathlib.Core.Path.{_≡_, refl, sym, _∙_, ap, subst}
 use mathlib.Core.Bool.{false, cond}
 use mathlib.Core.Logic.{inl, inr}
 use mathlib.Core.List.{List, map}
-use mathlib.Core.Option.{Option}
+use mathlib.Core.Option.{Option, none, some}
 use Prim.Native.Nat.{ℕ, _+_, _≤_}
 use native.Mathlib.Omega.{arith}
-use lib.ListN.{length, take, length-map}
+use lib.ListN.{length, take, length-map, length-drop}
 use lib.Seq.{length-take-le}
 use Rattle.plane.specs.Corners.{millimetres}
 use lib.Dec.{eqb}
@@ -42,18 +42,24 @@ module _ (mode : ℕ) (s : List ℕ) (m : Mode) (known : modeOf mode ≡ value m
       refusal : around (m .form) s ≡ refused code 0
       refusal = ap (λ i. around i s) f ∙ ap headed e
 
+-- What stands behind a header is no longer than the whole.
+behind-shorter : (o : Option Opened) (s : List ℕ) → length (behind o s) ≤ length s
+behind-shorter none s = omega arith
+behind-shorter (some h) s = omega (arith, length-drop (h .at) s)
+
 -- ---- what is got
 module _ (mode : ℕ) (s numbers : List ℕ) (m : Mode) (known : modeOf mode ≡ value m) where
   module _ (o : Option Opened) (is : around (m .form) s ≡ value o) where
     -- A sheet.
     pub got-sheet : (k : ℕ) (a : Around) → aroundOf a ≡ o → (ending : Ending) → ending ≡ Read k → EndsAs (m .edition) (behind o s) ending numbers → GotAs mode s (GotSheet k a) numbers
-    got-sheet k a e ending q f = let (n, r, h, l, w) = subst (λ r. EndsAs (m .edition) (behind o s) r numbers) q f in (
+    got-sheet k a e ending q f = let (n, r, h, l, w, p) = subst (λ r. EndsAs (m .edition) (behind o s) r numbers) q f in (
       edited (m .edition) n,
       by-value members s mode (edited (m .edition) n) .1 (record { known = m; is-mode = known; header = o; is-around = is; sheet = n; read = r; is = refl }),
       header-is members s mode m o known is ∙ sym e,
       h,
       l,
       w,
+      omega (arith, p, behind-shorter o s),
     )
 
     -- A refusal of reading, its position counted from the first byte.
@@ -84,7 +90,7 @@ module _ (mode : ℕ) (s l l′ : List ℕ) where
   as-many k l h m = ap length (sym (h .is)) ∙ length-map (take k l) millimetres ∙ length-take-le k l m
 
   pub one-outcome : (r r′ : Got) → GotAs mode s r l → GotAs mode s r′ l′ → (r ≡ r′) × ((k : ℕ) (a : Around) → r ≡ GotSheet k a → take k l ≡ take k l′)
-  one-outcome (GotSheet k a) (GotSheet k′ a′) (n, p, o, h, m, w₁) (n′, p′, o′, h′, m′, w₂) =
+  one-outcome (GotSheet k a) (GotSheet k′ a′) (n, p, o, h, m, w₁, q₁) (n′, p′, o′, h′, m′, w₂, q₂) =
       let same : n ≡ n′ = cc (sym p ∙ p′) in
       let e : k ≡ k′ = sym (as-many k l h m) ∙ ap (λ n. length (numbersOf n)) same ∙ as-many k′ l′ h′ m′ in
       let w = around-told a a′ (sym o ∙ o′) in (
@@ -92,8 +98,8 @@ module _ (mode : ℕ) (s l l′ : List ℕ) where
         λ i b q. let z : k ≡ i = cc q in
             rw (← z) (same-held (take k l) (take k l′) (h .is ∙ ap numbersOf same ∙ sym (h′ .is) ∙ ap (λ j. map millimetres (take j l′)) (sym e))),
       )
-  one-outcome (GotSheet k a) (GotRefused code item field) (n, p, o, h, m, w) (p′, f) = absurd (value-refused n code item (sym p ∙ p′))
-  one-outcome (GotRefused code item field) (GotSheet k a) (p′, f) (n, p, o, h, m, w) = absurd (value-refused n code item (sym p ∙ p′))
+  one-outcome (GotSheet k a) (GotRefused code item field) (n, p, o, h, m, w, q) (p′, f) = absurd (value-refused n code item (sym p ∙ p′))
+  one-outcome (GotRefused code item field) (GotSheet k a) (p′, f) (n, p, o, h, m, w, q) = absurd (value-refused n code item (sym p ∙ p′))
   one-outcome (GotRefused code item field) (GotRefused code′ item′ field′) (p, f) (p′, f′) =
       let (c, i) = same-refusal {A = Sheet} code item code′ item′ .0 (sym p ∙ p′) in
       (λ j. GotRefused (sym c j) (sym i j) ((f ∙ sym f′) j), λ k a q. absurd (let z : _≡_ {A = ℕ} 0 1 = cc q in omega arith))

@@ -3,7 +3,7 @@ use mathlib.Core.Path.{_≡_}
 use mathlib.Core.Bool.{false}
 use mathlib.Core.List.{List}
 use mathlib.Core.Option.{Option, none, some}
-use Prim.Native.Nat.{ℕ, _≤_}
+use Prim.Native.Nat.{ℕ, _*_, _/_, _≤_, min}
 use lib.Dec.{eqb}
 use lib.ListN.{length, take}
 use Rattle.lent.specs.Stages.{value, refused}
@@ -32,14 +32,19 @@ abbrev pub envelopeOf : Around → Optional
 envelopeOf Nothing = Absent
 envelopeOf (Header h) = h .envelope
 
--- A sheet by itself, in an edition: it stands at the front of the numbers, its rings closed and within the limits; or the refusal, with a position within the bytes.
+-- Lent numbers have room for any sheet of these bytes: for those of the largest sheet, or for one to four bytes.
+abbrev pub Room : List ℕ → List ℕ → Type 0
+Room s numbers = min 16450 (length s / 4) ≤ length numbers
+
+-- A sheet by itself, in an edition: it stands at the front of the numbers, its rings closed and within the limits, with at least four bytes for each number; or the
+-- refusal, with a position within the bytes.
 abbrev pub EndsAs : Edition → List ℕ → Ending → List ℕ → Type 0
-EndsAs edition s (Read k) numbers = (m : Sheet) × (readSheet members s ≡ value m) × SheetHeld members (edited edition m) (take k numbers) × (k ≤ length numbers) × RingsFit (edited edition m)
+EndsAs edition s (Read k) numbers = (m : Sheet) × (readSheet members s ≡ value m) × SheetHeld members (edited edition m) (take k numbers) × (k ≤ length numbers) × RingsFit (edited edition m) × (4 * k ≤ length s)
 EndsAs edition s (Refused code item field) numbers =
     (readSheet members s ≡ refused code item) × (field ≡ readingOf members s .position) × (eqb (readingOf members s .code) 0 ≡ false) × (field ≤ length s)
 
 -- In a mode.
 abbrev pub GotAs : ℕ → List ℕ → Got → List ℕ → Type 0
 GotAs mode s (GotSheet k around) numbers =
-    (n : Sheet) × (readBy members mode s ≡ value n) × (headerBy mode s ≡ aroundOf around) × SheetHeld members n (take k numbers) × (k ≤ length numbers) × RingsFit n
+    (n : Sheet) × (readBy members mode s ≡ value n) × (headerBy mode s ≡ aroundOf around) × SheetHeld members n (take k numbers) × (k ≤ length numbers) × RingsFit n × (4 * k ≤ length s)
 GotAs mode s (GotRefused code item field) numbers = (readBy members mode s ≡ refused code item) × (field ≡ positionIn (modeOf mode) s)

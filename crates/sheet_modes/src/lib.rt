@@ -7,7 +7,7 @@ ghost use lib.ListN.{length};
 ghost use Rattle.sheet_form.specs.Numbers.{Sheet};
 ghost use Rattle.sheet.specs.Held.{SheetHeld};
 ghost use Rattle.sheet_modes.specs.Modes.{present, older, framed};
-ghost use Rattle.sheet_modes.specs.Held.{aroundOf, envelopeOf, EndsAs, GotAs};
+ghost use Rattle.sheet_modes.specs.Held.{Room, aroundOf, envelopeOf, EndsAs, GotAs};
 use sheet::Ending;
 use sheet_blob::Opened;
 use sheet_blob::Opening;
@@ -50,7 +50,7 @@ pub fn framed(numbers: &[u32], around: Around) -> bool
 
 // Reads a sheet by itself, of the older edition or not, into lent numbers.
 fn sheet_of(s: &[u8], turns: bool, numbers: &mut [u32]) -> Ending
-    requires { ⌜ 16450 ≤ length (now numbers) ⌝ }
+    requires { ⌜ Room (now s) (now numbers) ⌝ }
     ensures { λ r. ⌜ EndsAs (cond turns older present) (now (s .entry)) r (now (numbers .exit)) × (length (now (numbers .exit)) ≡ length (now (numbers .entry))) ⌝ }
 {
     let ending = sheet::read(s, MEMBERS, numbers);
@@ -66,7 +66,7 @@ fn sheet_of(s: &[u8], turns: bool, numbers: &mut [u32]) -> Ending
 
 // Reads a sheet in a mode into lent numbers: its numbers form, each number plus 10,000,000. 57 for an unknown mode, before everything else.
 pub fn read(s: &[u8], mode: u32, numbers: &mut [u32]) -> Got
-    requires { ⌜ 16450 ≤ length (now numbers) ⌝ }
+    requires { ⌜ Room (now s) (now numbers) ⌝ }
     ensures { λ r. ⌜ GotAs mode (now (s .entry)) r (now (numbers .exit)) × (length (now (numbers .exit)) ≡ length (now (numbers .entry))) ⌝ }
 {
     if 3 < mode {

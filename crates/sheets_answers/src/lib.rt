@@ -6,7 +6,7 @@ ghost use Rattle.lent.specs.Answered.{Answered, bytes};
 ghost use Rattle.lent_little.specs.Held.{heldBytes};
 ghost use Rattle.sheet_modes.specs.Held.{aroundOf};
 ghost use Rattle.judged.specs.Judged.{Judged};
-ghost use Rattle.judged.specs.Held.{JudgedHeld};
+ghost use Rattle.judged.specs.Held.{JudgedHeld, Rooms};
 ghost use Rattle.outcomes.specs.declared.Wanted.the-variants.{Boundary};
 ghost use Rattle.outcomes.specs.Entries.{firstOf, sheetNumbersBy, sheetAreas, goesOn, answerTo, sheetListingBy};
 use judged_sets::Owning;
@@ -118,21 +118,27 @@ fn go_on(
     }
 }
 
-// The road of the entries that judge: the bytes come to a judged sheet, with the index that is lent or none, which goes on to what is wanted.
-pub fn answer(asked: Asked, sheet: &[u8], index: &[u8], out: &mut [u8]) -> u64
+// The road of the entries that judge, over lists that have room for what the bytes come to: a judged sheet, which goes on to what is wanted.
+fn answer_in(
+    asked: Asked,
+    sheet: &[u8],
+    index: &[u8],
+    numbers: &mut [u32],
+    opposite: &mut [usize],
+    sets: &mut [u64],
+    out: &mut [u8],
+) -> u64
+    requires { ⌜ Rooms (now sheet) (now numbers) (now opposite) (now sets) ⌝ }
     ensures { λ r. ⌜ Answered (answerTo asked (now (index .entry)) (now (sheet .entry))) (now (out .entry)) r (now (out .exit)) ⌝ }
 {
-    let mut numbers = [0u32; 16450];
-    let mut opposite = [0usize; 3072];
-    let mut sets = [0u64; 1024];
     match judged::judged_with(
         sheet,
         asked.mode,
         asked.indexed,
         index,
-        &mut numbers,
-        &mut opposite,
-        &mut sets,
+        numbers,
+        opposite,
+        sets,
     ) {
         Owning::Refused(code, item) => item as u64 * 256 + code as u64,
         Owning::Sets(n) => {
@@ -140,13 +146,60 @@ pub fn answer(asked: Asked, sheet: &[u8], index: &[u8], out: &mut [u8]) -> u64
             go_on(
                 asked.way,
                 wanted,
-                &numbers,
+                numbers,
                 &opposite[..3 * n],
                 &sets[..n],
                 out,
             )
         }
     }
+}
+
+// Of at most 8,192 bytes, in short lists.
+fn answer_few(asked: Asked, sheet: &[u8], index: &[u8], out: &mut [u8]) -> u64
+    requires { ⌜ length (now sheet) ≤ 8192 ⌝ }
+    ensures { λ r. ⌜ Answered (answerTo asked (now (index .entry)) (now (sheet .entry))) (now (out .entry)) r (now (out .exit)) ⌝ }
+{
+    let mut numbers = [0u32; 2048];
+    let mut opposite = [0usize; 1024];
+    let mut sets = [0u64; 342];
+    answer_in(
+        asked,
+        sheet,
+        index,
+        &mut numbers,
+        &mut opposite,
+        &mut sets,
+        out,
+    )
+}
+
+// Of any bytes, in long lists.
+fn answer_many(asked: Asked, sheet: &[u8], index: &[u8], out: &mut [u8]) -> u64
+    ensures { λ r. ⌜ Answered (answerTo asked (now (index .entry)) (now (sheet .entry))) (now (out .entry)) r (now (out .exit)) ⌝ }
+{
+    let mut numbers = [0u32; 16450];
+    let mut opposite = [0usize; 3072];
+    let mut sets = [0u64; 1024];
+    answer_in(
+        asked,
+        sheet,
+        index,
+        &mut numbers,
+        &mut opposite,
+        &mut sets,
+        out,
+    )
+}
+
+// The road of the entries that judge: the bytes come to a judged sheet, which goes on to what is wanted. No list is longer than the bytes ask.
+pub fn answer(asked: Asked, sheet: &[u8], index: &[u8], out: &mut [u8]) -> u64
+    ensures { λ r. ⌜ Answered (answerTo asked (now (index .entry)) (now (sheet .entry))) (now (out .entry)) r (now (out .exit)) ⌝ }
+{
+    if sheet.len() <= 8192 {
+        return answer_few(asked, sheet, index, out);
+    }
+    answer_many(asked, sheet, index, out)
 }
 
 // The printed listing of a sheet that is read in a mode and repaired in a way; the item is the number of bytes. A refused sheet has a listing too.

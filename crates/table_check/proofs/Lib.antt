@@ -2,3 +2,4 @@
 pub mod RuleC
 pub mod Framing
 pub mod Faults
+mod Outlines

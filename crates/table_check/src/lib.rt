@@ -164,8 +164,35 @@ fn compared(
     table_labels::agree(opposite, counts, labels)
 }
 
-// Rule C: the set of all triangles has the outline as its boundary, by the same comparison as in judging.
-fn outlined(
+// The set of all of at most 64 triangles has the outline as its boundary, compared in short work lists.
+fn outlined_few(
+    keys: &[u64],
+    from: &[u64],
+    to: &[u64],
+    ordered: &[u64],
+    index: &[u64],
+    opposite: &[usize],
+) -> bool
+    requires { ⌜ Indexed (now keys) (now ordered) (now index) (now opposite) × Edged (now from) (now to) × (length (now keys) ≤ 192) ⌝ }
+    ensures { λ r. ⌜ r ≡ agree (sidesOf (trianglesOf (now (keys .entry)))) (allPieces (corners (trianglesOf (now (keys .entry)))) (pairs (now (from .entry)) (now (to .entry)))) ⌝ }
+{
+    let n = keys.len();
+    let mut counts = [0u32; 192];
+    let labels = [true; 64];
+    compared(
+        keys,
+        from,
+        to,
+        ordered,
+        index,
+        opposite,
+        &mut counts[..n],
+        &labels[..n / 3],
+    )
+}
+
+// The set of all triangles has the outline as its boundary, compared in long work lists.
+fn outlined_many(
     keys: &[u64],
     from: &[u64],
     to: &[u64],
@@ -189,6 +216,24 @@ fn outlined(
         &mut counts[..n],
         &labels[..n / 3],
     )
+}
+
+// Rule C: the set of all triangles has the outline as its boundary, by the same comparison as in judging.
+fn outlined(
+    keys: &[u64],
+    from: &[u64],
+    to: &[u64],
+    ordered: &[u64],
+    index: &[u64],
+    opposite: &[usize],
+) -> bool
+    requires { ⌜ Indexed (now keys) (now ordered) (now index) (now opposite) × Edged (now from) (now to) × (length (now keys) ≤ 3072) ⌝ }
+    ensures { λ r. ⌜ r ≡ agree (sidesOf (trianglesOf (now (keys .entry)))) (allPieces (corners (trianglesOf (now (keys .entry)))) (pairs (now (from .entry)) (now (to .entry)))) ⌝ }
+{
+    if keys.len() <= 192 {
+        return outlined_few(keys, from, to, ordered, index, opposite);
+    }
+    outlined_many(keys, from, to, ordered, index, opposite)
 }
 
 // The table rules in their order: 10 over all triangles, then 11, then 12 against the outline, the edges from the corners of one list to those of the other. A lent

@@ -2,8 +2,9 @@
 use mathlib.Core.Path.{_≡_}
 use mathlib.Core.Bool.{cond}
 use mathlib.Core.List.{List, [], _∷_, _++_}
-use Prim.Native.Nat.{ℕ, _≤_}
+use Prim.Native.Nat.{ℕ, _≤_, _<_}
 use lib.Dec.{eqb}
+use lib.ListN.{getD}
 use Rattle.whole.specs.Sums.{Among, count}
 use Rattle.plane.specs.Points.{Edge, flip, sameEdge}
 use Rattle.plane.specs.Boundaries.{SameBoundary}
@@ -23,3 +24,10 @@ pub record Came (l before after : List Edge) : Type 0 where
   pub boundary : SameBoundary after (l ++ before)
   pub from-there : (e : Edge) → count sameEdge e after ≤ count sameEdge e (l ++ before)
   pub apart : Apart before → Apart after
+
+-- None of the first n numbers is u; one of them is.
+abbrev pub WithoutTo : List ℕ → ℕ → ℕ → Type 0
+WithoutTo us u n = (j : ℕ) → j < n → getD us j 0 ≡ u → ⊥
+
+abbrev pub WithTo : List ℕ → ℕ → ℕ → Type 0
+WithTo us u n = (j : ℕ) × (j < n) × (getD us j 0 ≡ u)

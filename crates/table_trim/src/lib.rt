@@ -220,9 +220,9 @@ fn tally_in(
     )
 }
 
-// Counts the pieces of at most 64 edges in short work lists.
+// Counts the pieces of at most 64 edges, cut at no more than 192 corners, in short work lists.
 fn tally_few(corners: &[u64], index: &[u64], from: &[u64], to: &[u64], counts: &mut [u32]) -> bool
-    requires { ⌜ ((sides : List Edge) × Looked sides (now corners) (now index) × (length (now counts) ≡ length sides)) × Edged (now from) (now to) × (length (now from) ≤ 64) ⌝ }
+    requires { ⌜ ((sides : List Edge) × Looked sides (now corners) (now index) × (length (now counts) ≡ length sides)) × Edged (now from) (now to) × (length (now from) ≤ 64) × (length (now corners) ≤ 192) ⌝ }
     ensures { λ r. ⌜ ((sides : List Edge) → Looked sides (now (corners .entry)) (now (index .entry)) → length (now (counts .entry)) ≡ length sides → Told r
         (Tallied sides (piecesOf (now (corners .entry)) (now (from .entry)) (now (to .entry))) (now (counts .exit)) × Settled sides (piecesOf (now (corners .entry)) (now (from .entry)) (now (to .entry))) (piecesOf (now (corners .entry)) (now (from .entry)) (now (to .entry))))
         (Stray sides (piecesOf (now (corners .entry)) (now (from .entry)) (now (to .entry))))) ⌝ }
@@ -231,8 +231,8 @@ fn tally_few(corners: &[u64], index: &[u64], from: &[u64], to: &[u64], counts: &
     let mut ts = [0u64; 64];
     let mut us = [0u64; 128];
     let mut vs = [0u64; 128];
-    let mut begins = [0u32; 3072];
-    let mut ends = [0u32; 3072];
+    let mut begins = [0u32; 192];
+    let mut ends = [0u32; 192];
     let mut done = [false; 64];
     let n = corners.len();
     tally_in(
@@ -289,7 +289,7 @@ pub fn tally(corners: &[u64], index: &[u64], from: &[u64], to: &[u64], counts: &
         (Tallied sides (piecesOf (now (corners .entry)) (now (from .entry)) (now (to .entry))) (now (counts .exit)) × Settled sides (piecesOf (now (corners .entry)) (now (from .entry)) (now (to .entry))) (piecesOf (now (corners .entry)) (now (from .entry)) (now (to .entry))))
         (Stray sides (piecesOf (now (corners .entry)) (now (from .entry)) (now (to .entry))))) ⌝ }
 {
-    if from.len() <= 64 {
+    if from.len() <= 64 && corners.len() <= 192 {
         return tally_few(corners, index, from, to, counts);
     }
     tally_many(corners, index, from, to, counts)

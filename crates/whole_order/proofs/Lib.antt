@@ -1,3 +1,4 @@
 -- The laws of ascending numbers.
 pub mod Ascending
 pub mod Moves
+mod Near

@@ -270,7 +270,7 @@ impl Cursor {
         Step::Geometry(kind, count, self.opened(slot, little, kind, count))
     }
 
-    fn ring_fits(self, n: u32) -> bool
+    pub fn ring_fits(self, n: u32) -> bool
         ensures { λ r. ⌜ r ≡ ringFits self n ⌝ }
     {
         if self.member == 1 {
@@ -285,7 +285,7 @@ impl Cursor {
         self.total <= 4096 - n
     }
 
-    fn with_points(mut self, n: u32) -> Cursor
+    pub fn with_points(mut self, n: u32) -> Cursor
         requires { ⌜ (self .at + 4 < 2 ^ 64) × (ringFits self n ≡ true) ⌝ }
         ensures { λ r. ⌜ r ≡ withPoints n self ⌝ }
     {
@@ -315,7 +315,7 @@ impl Cursor {
         Step::Ring(n, self.with_points(n))
     }
 
-    fn after_point(mut self) -> Cursor
+    pub fn after_point(mut self) -> Cursor
         requires { ⌜ self .at + 16 < 2 ^ 64 ⌝ }
         ensures { λ r. ⌜ r ≡ afterPoint self ⌝ }
     {

@@ -9,6 +9,8 @@ use lib.Seq.{length-take-le}
 use Rattle.table_neighbours.specs.Neighbours.{lentIf}
 use Rattle.sheet_modes.specs.Modes.{framed}
 use Rattle.sheet_modes.specs.Held.{aroundOf}
+use Rattle.sheet_form.specs.Numbers.{counted, memberNumbers}
+use Rattle.sheet_edges.proofs.Triangles.{table-room}
 use Rattle.judged_sets.proofs.Standing.{first-count}
 use Rattle.judged.proofs.Judging.{on-fronts}
 use Rattle.judged.proofs.judge.Statement.{statement}
@@ -34,12 +36,27 @@ first o = first-count (o .pre .0 .0) (now (o .args .numbers)) (o .pre .0 .1)
 few : (o : tie.Start) → many o ≤ 1024
 few o = omega (arith, first o .1, o .pre .0 .1 .few)
 
+-- Six numbers stand for each triangle.
+paid : (o : tie.Start) → 1 + 6 * many o ≤ length (now (o .args .numbers))
+paid o =
+    let n = o .pre .0 .0 in
+    let e : many o ≡ length (n .table) = omega (arith, first o .1) in
+    let r = table-room (now (o .args .numbers)) (n .table) (counted memberNumbers (n .polygons)) (o .pre .0 .1 .is) in
+    omega arith
+
+-- The lent lists have room for the table.
+sets-room : (o : tie.Start) → many o ≤ length (now (o .args .sets))
+sets-room o = omega (arith, few o, paid o, o .pre .2)
+
+opposite-room : (o : tie.Start) → 3 * many o ≤ length (now (o .args .opposite))
+opposite-room o = omega (arith, few o, paid o, o .pre .1)
+
 -- The fronts of the lent lists are as long as the table asks.
 sets-front : (o : tie.Start) → length (take (many o) (now (o .args .sets))) ≡ many o
-sets-front o = length-take-le (many o) (now (o .args .sets)) (omega (arith, few o, o .pre .2))
+sets-front o = length-take-le (many o) (now (o .args .sets)) (sets-room o)
 
 opposite-front : (o : tie.Start) → length (take (3 * many o) (now (o .args .opposite))) ≡ 3 * many o
-opposite-front o = length-take-le (3 * many o) (now (o .args .opposite)) (omega (arith, few o, o .pre .1))
+opposite-front o = length-take-le (3 * many o) (now (o .args .opposite)) (opposite-room o)
 
 judge-over-requires : tie.Need-judge-over-requires
 judge-over-requires c κs =
@@ -63,9 +80,9 @@ judge-spec =
     (λ c. omega (arith, first (start c) .1))
     (λ c. omega (arith, few (start c)))
     (λ c. omega (arith, few (start c)))
-    (λ c. let o = start c in omega (arith, few o, o .pre .1))
+    (λ c. opposite-room (start c))
     (λ c. sym (opposite-front (start (c .before))))
-    (λ c. let o = start (c .before) in omega (arith, few o, o .pre .2))
+    (λ c. sets-room (start (c .before)))
     (λ c. sym (sets-front (entry c)))
     judge-over-requires
     (λ c. search needs)

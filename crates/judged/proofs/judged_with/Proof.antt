@@ -3,7 +3,7 @@ use mathlib.Core.Path.{_≡_, sym, ap, subst}
 use mathlib.Core.List.{List}
 use mathlib.Core.Option.{Option}
 use mathlib.Core.Logic.{inl}
-use Prim.Native.Nat.{ℕ, _≤_}
+use Prim.Native.Nat.{ℕ, _*_, _≤_}
 use native.Mathlib.Omega.{arith}
 use borrow.Author.Needs.{needs}
 use denote.Ref.{now}
@@ -44,7 +44,7 @@ numbers c = c .read .last .1 .1 .0
 
 -- The sheet that was read stands at the front of the lent list, and what stands around it is told.
 held : (c : tie.After-n) → let d = read-call c in
-    (n : Sheet) × (readBy members (mode d) (bytes d) ≡ value n) × (headerBy (mode d) (bytes d) ≡ aroundOf (c .n .given .0 .1 .0)) × SheetHeld members n (take (c .n .given .0 .0) (numbers d)) × (c .n .given .0 .0 ≤ length (numbers d)) × RingsFit n
+    (n : Sheet) × (readBy members (mode d) (bytes d) ≡ value n) × (headerBy (mode d) (bytes d) ≡ aroundOf (c .n .given .0 .1 .0)) × SheetHeld members n (take (c .n .given .0 .0) (numbers d)) × (c .n .given .0 .0 ≤ length (numbers d)) × RingsFit n × (4 * c .n .given .0 .0 ≤ length (bytes d))
 held c = let d = read-call c in subst (λ r. GotAs (mode d) (bytes d) r (numbers d)) (c .n .given .1) (d .read .ensures .0)
 
 judge-requires : tie.Need-judge-requires
@@ -52,7 +52,8 @@ judge-requires c κs =
     let d = c .before .before .before .before in
     let p = start (read-call d) .pre in
     let h = held d in
-    ((h .0, h .3), p .1, p .2)
+    let k = length-take-le (d .n .given .0 .0) (numbers (read-call d)) (h .4) in
+    ((h .0, h .3), omega (arith, k, h .6, p .1), omega (arith, k, h .6, p .2))
 
 returns : tie.Need-returns
 returns c =

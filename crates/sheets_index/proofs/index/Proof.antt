@@ -1,7 +1,8 @@
 -- `sheets_index::index` meets its contract: a refusal of reading is the answer, and else the sheet that was read goes on to its index. Assumes nothing.
 use mathlib.Core.Path.{_≡_, sym, _∙_, ap, subst}
 use mathlib.Core.List.{List}
-use Prim.Native.Nat.{ℕ, _≤_}
+use Prim.Native.Nat.{ℕ, _*_, _≤_}
+use native.Mathlib.Omega.{arith}
 use borrow.Author.Needs.{needs}
 use denote.Ref.{now}
 use lib.ListN.{length, take}
@@ -45,7 +46,7 @@ module _ (a : tie.After-n) where
   abbrev around : Around
   around = a .n .given .0 .1 .0
 
-  pub held : (n : Sheet) × (readBy members (M D) (S D) ≡ value n) × (headerBy (M D) (S D) ≡ aroundOf around) × SheetHeld members n (take K (left D)) × (K ≤ length (left D)) × RingsFit n
+  pub held : (n : Sheet) × (readBy members (M D) (S D) ≡ value n) × (headerBy (M D) (S D) ≡ aroundOf around) × SheetHeld members n (take K (left D)) × (K ≤ length (left D)) × RingsFit n × (4 * K ≤ length (S D))
   held = subst (λ r. GotAs (M D) (S D) r (left D)) (a .n .given .1) (D .read .ensures .0)
 
 returns : tie.Need-returns
@@ -69,7 +70,7 @@ index-spec =
     tie.close
     (tie.spec
     (λ c. search needs)
-    (λ c κs. search needs)
+    (λ c κs. omega arith)
     (λ c. search needs)
     (λ c. search needs)
     (λ c. search needs)

@@ -48,7 +48,7 @@ module _ (a : tie.After-n) where
   abbrev around : Around
   around = a .n .given .0 .1 .0
 
-  pub held : (n : Sheet) × (readBy members (M D) (S D) ≡ value n) × (headerBy (M D) (S D) ≡ aroundOf around) × SheetHeld members n (take K (left D)) × (K ≤ length (left D)) × RingsFit n
+  pub held : (n : Sheet) × (readBy members (M D) (S D) ≡ value n) × (headerBy (M D) (S D) ≡ aroundOf around) × SheetHeld members n (take K (left D)) × (K ≤ length (left D)) × RingsFit n × (4 * K ≤ length (S D))
   held = subst (λ r. GotAs (M D) (S D) r (left D)) (a .n .given .1) (D .read .ensures .0)
 
   pub few : K ≤ 16450
@@ -106,7 +106,7 @@ position-spec =
     tie.close
     (tie.spec
     (λ c. search needs)
-    (λ c κs. search needs)
+    (λ c κs. omega arith)
     (λ c. search needs)
     (λ c. search needs)
     (λ c. search needs)

@@ -12,10 +12,10 @@ use Rattle.table_trim.proofs.tally_few.Statement.{statement}
 use Rattle.table_trim.proofs.tally_few.Tie as tie
 
 slice-aggregate-begins : tie.Need-slice-aggregate-tally-in-5
-slice-aggregate-begins c = sym (length-take-le _ _ (omega (arith, c .before .before .before .before .before .before .before .before .before .before .pre .0 .1 .few)))
+slice-aggregate-begins c = sym (length-take-le _ _ (omega (arith, c .before .before .before .before .before .before .before .before .before .before .pre .3)))
 
 slice-aggregate-ends : tie.Need-slice-aggregate-tally-in-6
-slice-aggregate-ends c = sym (length-take-le _ _ (omega (arith, c .before .before .before .before .before .before .before .before .before .before .before .pre .0 .1 .few)))
+slice-aggregate-ends c = sym (length-take-le _ _ (omega (arith, c .before .before .before .before .before .before .before .before .before .before .before .pre .3)))
 
 tally-in-requires : tie.Need-tally-in-requires
 tally-in-requires c κs =
@@ -27,10 +27,10 @@ tally-in-requires c κs =
       omega (arith, s .pre .2),
       omega (arith, s .pre .2),
       omega (arith, s .pre .2),
-      length-take-le n (replicate {A = ℕ} 3072 0) (omega (arith, s .pre .0 .1 .few)),
-      length-take-le n (replicate {A = ℕ} 3072 0) (omega (arith, s .pre .0 .1 .few)),
-      all-fresh {A = ℕ} n 3072 0,
-      all-fresh {A = ℕ} n 3072 0,
+      length-take-le n (replicate {A = ℕ} 192 0) (omega (arith, s .pre .3)),
+      length-take-le n (replicate {A = ℕ} 192 0) (omega (arith, s .pre .3)),
+      all-fresh {A = ℕ} n 192 0,
+      all-fresh {A = ℕ} n 192 0,
       omega (arith, s .pre .2),
       all-replicate {A = Bool} 64 false,
     )

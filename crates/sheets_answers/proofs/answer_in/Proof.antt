@@ -1,5 +1,5 @@
--- `sheets_answers::answer` meets its contract: a refusal of the judged sheet is the answer, and else the sheet, the reverses of its sides and its owner sets
--- stand at the fronts of the work arrays. Assumes nothing.
+-- `sheets_answers::answer_in` meets its contract: a refusal of the judged sheet is the answer, and else the sheet, the reverses of its sides and its owner sets
+-- stand at the fronts of the lent lists. Assumes nothing.
 use mathlib.Core.Path.{_≡_, sym, _∙_, ap, subst}
 use mathlib.Core.List.{List}
 use mathlib.Core.Option.{Option}
@@ -7,7 +7,7 @@ use Prim.Native.Nat.{ℕ, _*_, _≤_}
 use native.Mathlib.Omega.{arith}
 use borrow.Author.Needs.{needs}
 use denote.Ref.{now}
-use lib.ListN.{length, take}
+use lib.ListN.{length, take, length-take}
 use lib.Seq.{length-take-le}
 use Rattle.lent.specs.Stages.{value, andThen}
 use Rattle.lent.specs.Answered.{Answered}
@@ -15,17 +15,17 @@ use Rattle.lent.proofs.Answered.{answered-refusal}
 use Rattle.table_neighbours.specs.Neighbours.{lentIf}
 use Rattle.judged.specs.Judged.{Judged, judgedWith}
 use Rattle.judged.specs.Held.{JudgedHeld}
-use Rattle.judged.proofs.Standing.{stands, refused-is}
+use Rattle.judged.proofs.Standing.{stands, refused-is, sets-many, pairs}
 use Rattle.outcomes.specs.Entries.{goesOn}
-use Rattle.sheets_answers.proofs.answer.Statement.{statement}
-use Rattle.sheets_answers.proofs.answer.Tie as tie
+use Rattle.sheets_answers.proofs.answer_in.Statement.{statement}
+use Rattle.sheets_answers.proofs.answer_in.Tie as tie
 
 -- ---- places: the entry of the function, and the call of `judged_with`
 abbrev start : tie.After-judged-with → tie.Start
-start c = c .before .before .before .before .before .before .before
+start c = c .before .before .before .before .before .before .before .before .before .before
 
 abbrev call : tie.After-n → tie.After-judged-with
-call c = c .before .before .before .before .before
+call c = c .before .before .before .before .before .before .before .before
 
 abbrev sheet : tie.After-judged-with → List ℕ
 sheet c = now (start c .args .sheet)
@@ -45,10 +45,10 @@ few : (c : tie.After-n) → c .n .given .0 .0 ≤ 1024
 few c = let (j, e, t, w) = standing c in omega (arith, w .held .few)
 
 sides-fit : (c : tie.After-n) → 3 * c .n .given .0 .0 ≤ length (call c .judged-with .last .1 .1 .1 .1 .1 .0)
-sides-fit c = omega (arith, few c, call c .judged-with .kept .1 .1 .1 .1 .1 .0)
+sides-fit c = let (j, e, t, w) = standing c in omega (arith, pairs w .sides, sets-many w, length-take (3 * c .n .given .0 .0) (call c .judged-with .last .1 .1 .1 .1 .1 .0))
 
 sets-fit : (c : tie.After-n) → c .n .given .0 .0 ≤ length (call c .judged-with .last .1 .1 .1 .1 .1 .1 .0)
-sets-fit c = omega (arith, few c, call c .judged-with .kept .1 .1 .1 .1 .1 .1 .0)
+sets-fit c = let (j, e, t, w) = standing c in omega (arith, sets-many w, length-take (c .n .given .0 .0) (call c .judged-with .last .1 .1 .1 .1 .1 .1 .0))
 
 go-on-requires : tie.Need-go-on-requires
 go-on-requires c κs = let (j, e, t, w) = standing (c .before .before .before .before .before) in (j, w)
@@ -56,7 +56,7 @@ go-on-requires c κs = let (j, e, t, w) = standing (c .before .before .before .b
 returns : tie.Need-returns
 returns c =
     let k = c .before in
-    let j = k .before .before .before .before .before in
+    let j = k .before .before .before .before .before .before .before .before in
     let a = start j .args in
     let l = j .judged-with .last .1 .1 .1 .1 in
     let g = k .code .given in
@@ -71,15 +71,11 @@ returns-2 c =
     let (j, e, t, w) = standing n in
     subst (λ o. Answered o (now (a .out)) (g .result) (g .last .1 .1 .1 .1 .1 .0)) (sym (ap (λ r. andThen r (goesOn (a .asked .way) (a .asked .wanted))) e)) (g .ensures j w)
 
-pub answer-spec : {M : Type 1} → statement M
-answer-spec =
+pub answer-in-spec : {M : Type 1} → statement M
+answer-in-spec =
     tie.close
     (tie.spec
-    (λ c. search needs)
-    (λ c. search needs)
-    (λ c. search needs)
     (λ c κs. search needs)
-    (λ c. search needs)
     (λ c. search needs)
     (λ c. search needs)
     (λ c. search needs)
@@ -92,6 +88,12 @@ answer-spec =
     (λ c. sets-fit (c .before .before .before))
     (λ c. sym (length-take-le _ _ (sets-fit (c .before .before .before .before))))
     go-on-requires
+    (λ c. search needs)
+    (λ c. search needs)
+    (λ c. search needs)
     returns
+    (λ c. search needs)
+    (λ c. search needs)
+    (λ c. search needs)
     (λ c. search needs)
     returns-2)
