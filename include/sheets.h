@@ -2,8 +2,8 @@
 
    A sheet is a rectangle of ground cut into polygons, one land use each, with a triangulation that another program made. The library reads it
    from the binary form of OGC Simple Features (WKB), checks the triangle table, finds which polygons own each triangle, repairs gaps and
-   overlaps, lists boundary sides, prints a listing, and writes a sheet. It never moves a corner. Every entry is proved to do what its
-   description says, for every input.
+   overlaps, lists boundary sides, joins them into rings, prints a listing, and writes a sheet. It never moves a corner. Every entry is proved
+   to do what its description says, for every input.
 
    How every entry works
      - It takes the bytes of its input, some entries an index besides, and bytes lent for the answer (sheet_at alone has none): a pointer and a length each. A length of 0
@@ -49,8 +49,10 @@ extern "C" {
 #define SHEETS_WRITE_BLOB_ROOM 158330
 #define SHEETS_AREAS_ROOM 512
 #define SHEETS_INDEX_ROOM 6144
+#define SHEETS_RINGS_ROOM 74761
 
-/* What the entries whose names end in _by or _indexed are asked by, sheet_position, sheet_areas and sheet_index: the mode, how the sheet is read, and the way, how gaps are filled. */
+/* What the entries whose names end in _by or _indexed are asked by, sheet_position, sheet_areas, sheet_index, sheet_rings and sheet_at: the mode, how the
+   sheet is read, and the way, how gaps are filled. */
 #define SHEETS_MODE_PRESENT 0
 #define SHEETS_MODE_OLDER 1
 #define SHEETS_MODE_BLOB 2
@@ -140,6 +142,14 @@ uint64_t sheet_owners_by(const uint8_t *sheet, size_t sheet_len, uint32_t mode, 
 /* sheet_boundary in a mode and a way. Refusals: 57, 1 to 8, 10, 11, 12, 52, 20/21, 41, 54, 30 (never), 40. */
 uint64_t sheet_boundary_by(const uint8_t *sheet, size_t sheet_len, uint32_t mode, uint32_t way, uint32_t polygon, uint8_t *out, size_t out_len);
 
+/* The boundary sides of a polygon after repair, in a mode and a way, joined into closed rings: a WKB MultiLineString (type 5) of LineStrings (type 2), little-endian,
+   each with the point at which its first side begins and then the point at which each side ends, the first point again at last. Each side that sheet_boundary_by
+   lists is in exactly one ring, once. Where several leave the corner at which a side ends, the sharpest turn to the right follows, measured from that side; so areas
+   that touch in a corner make one ring. A ring begins at the earliest of its sides in the order of sheet_boundary_by, and rings stand in the order of their first
+   sides. Corners in which a ring goes straight on stay. A polygon that owns nothing after repair has 0 rings, in 9 bytes. Item: bytes, 9 and 16 for each side and 25
+   for each ring. Refusals: 57, 1 to 8, 10, 11, 12, 52, 20/21, 41, 54, 30 (never), 40. */
+uint64_t sheet_rings(const uint8_t *sheet, size_t sheet_len, uint32_t mode, uint32_t way, uint32_t polygon, uint8_t *out, size_t out_len);
+
 /* sheet_listing in a mode and a way. Refusal: 40. */
 uint64_t sheet_listing_by(const uint8_t *sheet, size_t sheet_len, uint32_t mode, uint32_t way, uint8_t *out, size_t out_len);
 
@@ -153,14 +163,16 @@ uint64_t sheet_write_blob(const uint8_t *numbers, size_t numbers_len, uint8_t *o
    triangle. Refusals: 57, 1 to 8, 10, 11, 12, 52, 40. */
 uint64_t sheet_index(const uint8_t *sheet, size_t sheet_len, uint32_t mode, uint8_t *out, size_t out_len);
 
-/* sheet_owner_sets_by, sheet_owners_by and sheet_boundary_by with an index. One that differs from the table's own in length or content, an empty one too, is refused
-   53, right before 20/21; with the table's own the answers are those without one. Where sheet_index refuses the sheet they give the same refusal, whatever is
-   lent. Refusals: 57, 1 to 8, 10, 11, 12, 52, 53, and then as without an index. */
+/* sheet_owner_sets_by, sheet_owners_by, sheet_boundary_by and sheet_rings with an index. One that differs from the table's own in length or content, an empty one
+   too, is refused 53, right before 20/21; with the table's own the answers are those without one. Where sheet_index refuses the sheet they give the same refusal,
+   whatever is lent. Refusals: 57, 1 to 8, 10, 11, 12, 52, 53, and then as without an index. */
 uint64_t sheet_owner_sets_indexed(const uint8_t *sheet, size_t sheet_len, const uint8_t *index, size_t index_len, uint32_t mode, uint8_t *out, size_t out_len);
 uint64_t sheet_owners_indexed(const uint8_t *sheet, size_t sheet_len, const uint8_t *index, size_t index_len, uint32_t mode, uint32_t way, uint8_t *out,
                               size_t out_len);
 uint64_t sheet_boundary_indexed(const uint8_t *sheet, size_t sheet_len, const uint8_t *index, size_t index_len, uint32_t mode, uint32_t way, uint32_t polygon,
                                 uint8_t *out, size_t out_len);
+uint64_t sheet_rings_indexed(const uint8_t *sheet, size_t sheet_len, const uint8_t *index, size_t index_len, uint32_t mode, uint32_t way, uint32_t polygon,
+                             uint8_t *out, size_t out_len);
 
 /* What is at the point (x, y), in millimetres, any two numbers: the number of the polygon that owns it after repair in the way, as the item. A point belongs to a
    triangle if, for each side, it is strictly to the left, or lies on the line of a side that runs downward, or on that of a side that runs level to the right. Every

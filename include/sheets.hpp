@@ -168,6 +168,11 @@ Answer<std::vector<Side>> boundary(Entry entry) {
 }
 
 template <class Entry>
+Answer<Bytes> rings(Entry entry) {
+    return call(SHEETS_RINGS_ROOM, 1, entry);
+}
+
+template <class Entry>
 std::string listing(Entry entry) {
     Answer<Bytes> answer = call(SHEETS_LISTING_ROOM, 1, entry);
     if (!answer) throw std::logic_error("the room is enough for every listing");
@@ -288,6 +293,17 @@ inline Answer<std::vector<Side>> boundary_by(const std::uint8_t *sheet, std::siz
     });
 }
 
+// The boundary sides of a polygon after repair joined into closed rings, as a WKB MultiLineString, in a mode and a way, and in the present one by priority.
+inline Answer<Bytes> rings_by(const std::uint8_t *sheet, std::size_t size, Mode mode, Way way, std::uint32_t polygon) {
+    return inside::rings([&](std::uint8_t *lent, std::size_t room) {
+        return sheet_rings(inside::given(sheet, size), size, inside::number(mode), inside::number(way), polygon, lent, room);
+    });
+}
+
+inline Answer<Bytes> rings(const std::uint8_t *sheet, std::size_t size, std::uint32_t polygon) {
+    return rings_by(sheet, size, Mode::Present, Way::Priority, polygon);
+}
+
 inline std::string listing_by(const std::uint8_t *sheet, std::size_t size, Mode mode, Way way) {
     return inside::listing([&](std::uint8_t *lent, std::size_t room) {
         return sheet_listing_by(inside::given(sheet, size), size, inside::number(mode), inside::number(way), lent, room);
@@ -321,6 +337,13 @@ inline Answer<std::vector<Side>> boundary_indexed(const std::uint8_t *sheet, std
     return inside::boundary([&](std::uint8_t *lent, std::size_t room) {
         return sheet_boundary_indexed(inside::given(sheet, size), size, inside::given(index.data(), index.size()), index.size(), inside::number(mode),
                                       inside::number(way), polygon, lent, room);
+    });
+}
+
+inline Answer<Bytes> rings_indexed(const std::uint8_t *sheet, std::size_t size, const Bytes &index, Mode mode, Way way, std::uint32_t polygon) {
+    return inside::rings([&](std::uint8_t *lent, std::size_t room) {
+        return sheet_rings_indexed(inside::given(sheet, size), size, inside::given(index.data(), index.size()), index.size(), inside::number(mode),
+                                   inside::number(way), polygon, lent, room);
     });
 }
 

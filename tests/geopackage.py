@@ -1,7 +1,8 @@
 #!/usr/bin/python3
 """Blobs between the library, GDAL and SQLite: those of a GeoPackage that GDAL writes are read, and are the library's own byte for byte; those that the library
 writes, put into a table by SQLite, are read by GDAL, by its ogrinfo too, and by SQLite. The checker and the gate say of each row of GDAL's files, and of such a
-file with a view, an R-tree and geometries of every kind, what the independent program says of its blob.
+file with a view, an R-tree and geometries of every kind, what the independent program says of its blob. The rings that the library joins are read by GDAL as the
+MultiLineString that they are, and the polygons of repaired sheets as valid ones; and a GeoPackage of GDAL's, repaired, is one that GDAL reads, with its R-tree.
 
     /usr/bin/python3 tests/geopackage.py BRIDGE CHECKER GATE    'N passed, M failed', with Debian's Python, which has GDAL (python3-gdal)
 
@@ -19,12 +20,12 @@ import tempfile
 from osgeo import gdal, ogr, osr
 
 import independent
-from programs import Programs, folder_of, line, told
+from programs import Programs, areas_after, both_repair, contents, folder_of, line, repaired_line, told
 from tally import tally
 
 EXAMPLES = os.path.join(os.path.dirname(os.path.dirname(os.path.abspath(__file__))), "examples")
 ROOM = 158_330
-NUMBERS_BY, WRITE_BLOB, BLOB = 8, 13, 2
+NUMBERS_BY, WRITE_BLOB, RINGS, BLOB = 8, 13, 20, 2
 # The tables: a reference system by its EPSG code, or none, and the number that GDAL gives it.
 TABLES = {"utm": (25832, 25832), "degrees": (4326, 4326), "plain": (None, 0)}
 # A sheet whose frame has four different bounds, which the examples have not.
@@ -41,9 +42,9 @@ def equal(what, got, wanted):
     return got == wanted
 
 
-def call(bridge, function, mode, given):
+def call(bridge, function, mode, given, polygon=0):
     """The code of an entry's answer, and what it writes, whose item is its length."""
-    frame = struct.pack("<B5I", function, mode, 0, 0, len(given), ROOM) + given
+    frame = struct.pack("<B5I", function, mode, 0, polygon, len(given), ROOM) + given
     printed = subprocess.run(bridge.split(), input=frame, stdout=subprocess.PIPE, check=True).stdout
     packed, lent = struct.unpack("<Q", printed[:8])[0], printed[8:]
     return packed % 256, lent[:packed // 256] if packed % 256 == 0 else b""
@@ -198,6 +199,80 @@ def by_both(checker, gate, path, tables):
     return outcomes
 
 
+# The rings of a polygon, by the file that its sheet is in, as GDAL writes them out.
+LINES = {
+    ("strip", 1): "MULTILINESTRING ((0 0,2 0,4 0,4 4,2 4,0 4,0 0))",
+    ("strip", 2): "MULTILINESTRING ((4 0,6 0,8 0,8 4,6 4,4 4,4 0))",
+    ("rings of two areas apart", 1): "MULTILINESTRING ((0 0,2 0,2 4,0 4,0 0),(4 0,6 0,6 4,4 4,4 0))",
+    ("the ring of a bow-tie", 1): "MULTILINESTRING ((2 2,0 0,4 0,2 2,4 4,0 4,2 2))",
+    ("a hole that touches the outer ring", 1): "MULTILINESTRING ((0 0,2 0,4 0,6 0,6 2,6 4,6 6,4 6,2 6,0 6,0 4,0 2,0 0),(2 0,2 2,4 2,2 0))",
+    ("no rings of a polygon that owns nothing", 2): "MULTILINESTRING EMPTY",
+}
+
+
+def lines_by_gdal(bridge, cases):
+    """GDAL reads what the rings entry writes: a MultiLineString of closed LineStrings with just these points, which it writes as the same bytes."""
+    outcomes = []
+    for (name, polygon), text in LINES.items():
+        code, written = call(bridge, RINGS, 0, contents(os.path.join(cases, name + ".wkb")), polygon)
+        lines = ogr.CreateGeometryFromWkb(written)
+        outcomes += [equal(name, (code, lines.GetGeometryType(), lines.ExportToWkt()), (0, ogr.wkbMultiLineString, text)),
+                     equal(name + ", its bytes", bytes(lines.ExportToIsoWkb(ogr.wkbNDR)), written),
+                     equal(name + ", closed", all(line.GetPoint(0) == line.GetPoint(line.GetPointCount() - 1) for line in lines), True)]
+    code, written = call(bridge, RINGS, 0, contents(os.path.join(cases, "the ring of a fan of 512 areas.wkb")), 1)
+    lines = ogr.CreateGeometryFromWkb(written)
+    return outcomes + [equal("a fan", (code, len(written), lines.GetGeometryCount(), lines.GetGeometryRef(0).GetPointCount()), (0, 9 + 9 + 16 * 1537, 1, 1537))]
+
+
+# Sheets whose polygons are valid after repair, and ones that have a ring which touches itself, or holes that part a polygon.
+VALID = ("clean", "strip", "gaps-and-overlaps", "story", "rings of two areas apart", "a hole that touches the outer ring",
+         "a gap inside polygon 2, and overlaps with 1 and 3", "a gap round polygon 2 shares 8 with it and 24 with 1", "no rings of a polygon that owns nothing")
+TOUCHING = ("the ring of a bow-tie", "the rings of two holes that touch", "the ring of three areas in one corner", "an island that touches the shore in one corner", "an island that touches the shore in two corners")
+
+
+def repaired_by_gdal(programs, cases):
+    """GDAL reads the polygons of repaired sheets: with the areas that the independent program lists after repair, and valid but for those that touch themselves."""
+    outcomes = []
+    for name in VALID + TOUCHING:
+        path = os.path.join(cases, name + ".wkb")
+        (verdict, listing), = independent.answers([path])
+        more, written = both_repair(programs, name, [path], [line(path, repaired_line(verdict, listing))])
+        sheet = ogr.CreateGeometryFromWkb(written)
+        polygons = [sheet.GetGeometryRef(k).Clone() for k in range(1, sheet.GetGeometryCount())]
+        outcomes += more + [equal(name + " by GDAL", [2 * polygon.GetArea() for polygon in polygons], list(map(float, areas_after(listing)))),
+                            equal(name + ", valid", all(polygon.IsValid() for polygon in polygons), name in VALID)]
+    return outcomes
+
+
+def repaired_package(programs, path):
+    """A GeoPackage of GDAL's with an R-tree is repaired: GDAL reads the sheets, finds them by their frames, and reads all other rows as they were."""
+    def features(of):
+        package = ogr.Open(of)
+        table = package.GetLayerByName("mixed")
+        return {feature.GetFID(): feature.GetGeometryRef() and bytes(feature.GetGeometryRef().ExportToIsoWkb(ogr.wkbNDR)) for feature in table}
+
+    def tree(of):
+        with sqlite3.connect(of) as base:
+            return base.execute('SELECT * FROM "rtree_mixed_the shape" ORDER BY 1').fetchall()
+    with sqlite3.connect(path) as base:
+        blobs = [(number, blob or b"") for number, blob in base.execute('SELECT number, "the shape" FROM mixed ORDER BY 1')]
+    with folder_of({"%d" % number: blob for number, blob in blobs}) as folder:
+        answers = independent.answers([os.path.join(os.fsdecode(folder), "%d" % number) for number, _ in blobs], 2)
+    lines = [line("%s/mixed/%d" % (path, number), repaired_line(*answer)) for (number, _), answer in zip(blobs, answers)]
+    outcomes, copy = both_repair(programs, "GDAL's file repaired", ["--table", "mixed", path], lines, out="out.gpkg")
+    with folder_of({"copy.gpkg": copy}) as folder:
+        new = os.path.join(os.fsdecode(folder), "copy.gpkg")
+        before, after = features(path), features(new)
+        changed = [number for number in before if before[number] != after[number]]
+        sheets_ = [number for (number, _), (verdict, _) in zip(blobs, answers) if verdict in ("repair", "clean")]
+        package = ogr.Open(new)
+        table = package.GetLayerByName("mixed")
+        table.SetSpatialFilterRect(9_999_999, 21, 10_000_001, 22)
+        outcomes += [equal("rows", list(after), list(before)), equal("the R-tree", tree(new), tree(path)), equal("rows that are no sheets", [k for k in changed if k not in sheets_], []),
+                     equal("rows that were repaired", len(changed) > 1, True), equal("by its frame", table.GetFeatureCount(), 1)]
+    return outcomes
+
+
 def main(bridge, checker, gate):
     ogr.UseExceptions()
     gdal.PushErrorHandler("CPLQuietErrorHandler")  # it says that a table with a TIN isn't every program's
@@ -209,6 +284,10 @@ def main(bridge, checker, gate):
         outcomes += read_by_others(path, rows) + by_ogrinfo(path, rows) + by_both(checker, gate, path, dict.fromkeys(TABLES, ("fid", "geom")))
         other = os.path.join(folder, "mixed.gpkg")
         outcomes += mixed(other) + by_both(checker, gate, other, {"mixed": ("number", "the shape"), "part": ("OGC_FID", "g")})
+        outcomes += repaired_package(Programs(checker, gate), other)
+        cases = os.path.join(folder, "cases")
+        independent.cases(cases)
+        outcomes += lines_by_gdal(bridge, cases) + repaired_by_gdal(Programs(checker, gate), cases)
         return tally(outcomes + refused(bridge, os.path.join(folder, "strange.gpkg")))
 
 

@@ -1,6 +1,6 @@
 #!/usr/bin/env python3
 """GeoPackage files in the C++ checker and the Rust gate: both say of each row what the independent program says of its blob, line by line, and of what is no
-GeoPackage what SQLite says; nothing is ever written to a file, nor beside it.
+GeoPackage what SQLite says; nothing is ever written to a file, nor beside it. A copy in which rows are repaired has no other change.
 
     python3 tests/packages.py CHECKER GATE FOLDER             'N passed, M failed'; FOLDER has blobs of every kind, as programs.py has them
     python3 tests/packages.py --sheets CHECKER GATE FOLDER    the same of rows in tables, of faults, and of what is left unwritten
@@ -23,8 +23,8 @@ import tempfile
 
 import independent
 from independent import ROOT
-from programs import (EMPTY, EXAMPLES, MODES, READ_CAP, WAYS, Programs, contents, equal, files_of, folder_of, kind, limited, line, progress_lines, refused, run, shown,
-                      start, summary, told, unread, wkb_of)
+from programs import (EMPTY, EXAMPLES, MODES, READ_CAP, WAYS, Programs, areas_after, both_repair, contents, equal, files_of, folder_of, kind, limited, line, progress_lines,
+                      refused, repair_kind, repaired_line, run, shown, start, summary, told, unread, wkb_of)
 from tally import tally
 
 STRANGE = refused(50, 0)
@@ -428,6 +428,130 @@ def without_rights(programs):
     return outcomes
 
 
+# ---------------------------------------------------------------------------------------------------------------- repair
+
+
+def rows_in(path, table="sheets", column="geom"):
+    """The rows of a table, by number."""
+    with base_of(path) as base:
+        return dict(base.execute("SELECT rowid, %s FROM %s" % (column, quoted(table))).fetchall())
+
+
+def rest_of(path, table="sheets"):
+    """All of a database but the rows of a table; and whether it is sound."""
+    with base_of(path) as base:
+        sound = base.execute("PRAGMA integrity_check").fetchall()
+        return [said for said in base.iterdump() if not said.startswith('INSERT INTO "%s"' % table)], sound
+
+
+def repaired(programs, what, path, lines, words=(), **more):
+    """Do both make the same copy, and say so, and is what stands beside the file as it was? The rows of the copy's table, and the rest of it; nothing where there is no copy."""
+    before = state(os.path.dirname(path))
+    outcomes, copy = both_repair(programs, what, [*words, path], lines, out="out.gpkg", **more)
+    outcomes.append(equal(what + ", what is kept", state(os.path.dirname(path)), before))
+    if copy is None:
+        return outcomes, ({}, ())
+    with folder_of({"copy.gpkg": copy}) as folder:
+        new = os.path.join(os.fsdecode(folder), "copy.gpkg")
+        outcomes.append(equal(what + ", its journal", copy[18:20], b"\1\1"))
+        return outcomes, (rows_in(new), rest_of(new))
+
+
+def repaired_rows(programs):
+    """The rows of the examples' GeoPackage, and one more in a -wal: each is what is made of its blob alone, one that is refused is as it was, and so is all else. Only the rows
+    that are asked for are changed."""
+    outcomes = []
+    with package() as path, tempfile.TemporaryDirectory() as beside:
+        wanted, lines = {}, []
+        for number, blob in [*rows_in(path).items(), (10, blob_of("strip"))]:
+            alone, new = os.path.join(beside, "a.gpb"), os.path.join(beside, "%d.gpb" % number)
+            with open(alone, "wb") as f:
+                f.write(blob)
+            said = run(programs.checker, "--blob", "--repair", new, alone)[1][0].partition(": ")[2]
+            wanted[number] = contents(new) if os.path.exists(new) else blob
+            lines.append(line("%s/sheets/%d" % (path, number), said))
+        rest, before = rest_of(path), rows_in(path)
+        more, (rows, others) = repaired(programs, "rows", path, lines[:9])
+        outcomes += more + [equal("rows", rows, {number: blob for number, blob in wanted.items() if number < 10}), equal("the rest", others, rest)]
+        more, (rows, others) = repaired(programs, "one row", path, lines[8:9], ["--table", "Sheets", "--where-id", "9"])
+        outcomes += more + [equal("one row", rows, {**before, 9: wanted[9]}), equal("the rest of it", others, rest)]
+        with with_changes(path):
+            more, (rows, _) = repaired(programs, "changes beside it", path, lines)
+            outcomes += more + [equal("rows with changes", rows, wanted)]
+        for words in (["--table", "none"], ["--where-id", "99"]):
+            outcomes += repaired(programs, "no row", path, [unread(path, NOTHING)], words)[0]
+    return outcomes + [equal("rows of each kind", {repair_kind(said) for said in lines}, {0, 2})]
+
+
+def repaired_blobs(programs, folder):
+    """Generated blobs in a table, in both ways and of both editions: the lines, and the areas in the copy, are those that the independent program has after repair."""
+    outcomes, blobs = [], files_of(folder, ".gpb")[::3]
+    with package(lambda base: add(base, "sheets", [(fid, contents(path)) for fid, path in enumerate(blobs)])) as path:
+        for mode, way in ((2, 1), (3, 0)):
+            answers = independent.answers(blobs, mode, way)
+            lines = [line("%s/sheets/%d" % (path, fid), repaired_line(*answer)) for fid, answer in enumerate(answers)]
+            with tempfile.TemporaryDirectory() as out:
+                got = run(programs.gate, "--repair", os.path.join(out, "out.gpkg"), *MODES[mode], *WAYS[way], path)[1]
+            over = {fid: said for fid, said in enumerate(got) if ": over the limits: " in said}
+            lines = [over.get(fid, said) for fid, said in enumerate(lines)]
+            more, (rows, _) = repaired(programs, "blobs, mode %d, way %d" % (mode, way), path, lines, MODES[mode] + WAYS[way])
+            made = [fid for fid, said in enumerate(lines) if repair_kind(said) < 2]
+            with folder_of({"%d" % fid: rows[fid] for fid in made}) as new:
+                found = independent.answers([os.path.join(os.fsdecode(new), "%d" % fid) for fid in made], 2)
+            areas = [(verdict, [said.split()[2] for said in listing if said.startswith("polygon ")]) for verdict, listing in found]
+            outcomes += more + [equal("areas", areas, [("clean", areas_after(answers[fid][1])) for fid in made]), equal("enough", len(made) > 10, True)]
+            others = [fid for fid in range(len(blobs)) if fid not in made]
+            outcomes.append(equal("the others", [rows[fid] for fid in others], [contents(blobs[fid]) for fid in others]))
+    return outcomes
+
+
+def repaired_apart(programs):
+    """Rows of a view, and of a table without row numbers, can't be changed; a trigger that SQLite has no function for is not run."""
+    def change(base):
+        add(base, "sheets", [(1, blob_of("strip"))])
+        base.execute("CREATE TRIGGER frame AFTER UPDATE OF geom ON sheets WHEN NOT ST_IsEmpty(NEW.geom) BEGIN DELETE FROM sheets; END")
+        add(base, "narrow", [("x", blob_of("strip")), ("y", b"")], made="CREATE TABLE {table} (k PRIMARY KEY, {column}) WITHOUT ROWID")
+        base.execute("CREATE VIEW seen AS SELECT fid, geom FROM sheets")
+        name(base, "seen")
+
+    fixed = "could not be written to out.gpkg: its table is a view, or has no row numbers"
+    with package(change) as path:
+        lines = [line(path + "/narrow/x", fixed), line(path + "/narrow/y", EMPTY), line(path + "/seen/1", fixed), line(path + "/sheets/1", "repaired")]
+        outcomes, (rows, _) = repaired(programs, "a view", path, lines)
+        outcomes.append(equal("the row", list(rows) == [1] and rows[1] != blob_of("strip"), True))
+        more, _ = repaired(programs, "without it", path, lines[3:], ["--table", "sheets"])
+        return outcomes + more
+
+
+def repair_places(programs):
+    """Where a copy can't be written: over the file itself, under a name of another kind, where SQLite has changes for a file of its name; a file that is none has no copy."""
+    outcomes = []
+    with package() as path:
+        folder, lines = os.path.dirname(path), of_examples(path)
+        repairs = [said.replace(": repair", ": repaired") for said in lines]
+        repairs[4] = line(path + "/sheets/5", refused(30, 0))
+        more, made = repaired(programs, "a file that is there", path, repairs, before={"out.gpkg": b"old"})
+        outcomes += more + [equal("it is replaced", len(made[0]), 9)]
+        for end in ("-wal", "-journal"):
+            why = "could not be written to out.gpkg: SQLite's changes to a file of that name stand beside it"
+            outcomes += both_repair(programs, "changes", [path], [line(path, why)], out="out.gpkg", before={"out.gpkg" + end: b""})[0]
+        outcomes += both_repair(programs, "another kind", [path], [line(path, "could not be written to out.wkb: a GeoPackage's name ends in .gpkg")])[0]
+        before = state(folder)
+        for command in (programs.checker, programs.gate):
+            got = run(command, "--repair", path, path)
+            outcomes.append(equal("itself", (got[0], got[1][0]), (3, line(path, "could not be written to %s: it is the input itself" % path))))
+        outcomes.append(equal("it is kept", state(folder), before))
+    with package() as path, folder_of({}) as folder:
+        for name_, command in (("checker", programs.checker), ("gate", programs.gate)):
+            with open("/dev/full", "wb") as full:
+                message = "%s: standard output could not be written: %s" % (name_, os.strerror(28))
+                outcomes.append(equal("a full disk", run(command, "--repair", "out.gpkg", path, stdout=full, cwd=folder), (3, [], [message])))
+            outcomes.append(equal("nothing is left of it", os.listdir(folder), []))
+    with folder_of({"noise.gpkg": b"x" * 5000}) as folder:
+        noise = os.path.join(folder, b"noise.gpkg")
+        return outcomes + both_repair(programs, "noise", [noise], [unread(noise, "file is not a database")], out="out.gpkg")[0]
+
+
 # ---------------------------------------------------------------------------------------------------------------- many
 
 
@@ -519,6 +643,7 @@ def main(checker, gate, folder):
     programs = Programs(checker, gate)
     outcomes = in_tables(programs, folder) + narrowed(programs) + odd_names(programs) + values(programs) + ids(programs) + faults(programs)
     outcomes += damaged(programs) + no_packages(programs) + unwritten(programs) + broken_off(programs) + at_work(programs) + without_rights(programs)
+    outcomes += repaired_rows(programs) + repaired_blobs(programs, folder) + repaired_apart(programs) + repair_places(programs)
     outcomes += folders(programs) + many(programs) + readme(programs)
     return tally(outcomes)
 
@@ -526,5 +651,5 @@ def main(checker, gate, folder):
 if __name__ == "__main__":
     if sys.argv[1:2] == ["--sheets"]:
         *commands, where = sys.argv[2:]
-        sys.exit(tally(in_tables(Programs(*commands), where) + faults(Programs(*commands)) + unwritten(Programs(*commands))))
+        sys.exit(tally(in_tables(Programs(*commands), where) + faults(Programs(*commands)) + unwritten(Programs(*commands)) + repaired_rows(Programs(*commands))))
     sys.exit(main(*sys.argv[1:]))

@@ -1,10 +1,11 @@
 #!/usr/bin/env python3
-"""The C++ checker and the Rust gate: the verdict, listing and status of each sheet are those of the independent program, in both.
+"""The C++ checker and the Rust gate: the verdict, listing and status of each sheet are those of the independent program, in both; and sheets that they write after
+repair are alike, clean, and have the areas that the independent program lists after repair.
 
 What they do with files that are no sheets, with names of any bytes, with long files, and where memory, disk or patience end, is tried with them.
 
     python3 tests/programs.py CHECKER GATE FOLDER             'N passed, M failed'; FOLDER has 500 sheets of every kind and 16 of the largest, and blobs of them
-    python3 tests/programs.py --sheets CHECKER GATE FOLDER    the same of the verdicts and listings alone, on whatever sheets and blobs FOLDER has
+    python3 tests/programs.py --sheets CHECKER GATE FOLDER    the same of the verdicts, listings and repaired sheets alone, on whatever sheets and blobs FOLDER has
 
 CHECKER and GATE are commands, with an emulator before them where one is needed.
 """
@@ -421,6 +422,260 @@ def blobs(programs, cases):
     return outcomes
 
 
+# ---------------------------------------------------------------------------------------------------------------- repair
+
+
+def parsed(sheet):
+    """The triangles and the polygons of a little-endian sheet; of each polygon the parts, their rings and points."""
+    at = 0
+
+    def field(form):
+        nonlocal at
+        at += struct.calcsize("<" + form)
+        return struct.unpack("<" + form, sheet[at - struct.calcsize("<" + form):at])
+
+    def rings(count):
+        return [[field("2d") for _ in range(field("I")[0])] for _ in range(count)]
+
+    def parts():
+        _, kind_, count = field("BII")
+        return [rings(count)] if kind_ in (3, 17) else [part for _ in range(count) for part in parts()]
+
+    members = field("BII")[2]
+    return parts(), [parts() for _ in range(members - 1)]
+
+
+def double_area(ring):
+    return sum(p[0] * q[1] - q[0] * p[1] for p, q in zip(ring, ring[1:]))
+
+
+def is_round(outer, ring):
+    """Does a ring run round another's first edge, by the half plane to its left of the edges that pass its middle?"""
+    x, y = ((ring[0][k] + ring[1][k]) / 2 for k in (0, 1))
+    passing = [(p, q) for p, q in zip(outer, outer[1:]) if (p[1] > y) != (q[1] > y)]
+    return sum((q[1] > p[1]) - (q[1] < p[1]) for p, q in passing if ((q[0] - p[0]) * (y - p[1]) - (x - p[0]) * (q[1] - p[1])) * (q[1] - p[1]) > 0) > 0
+
+
+def is_in_parts(sheet):
+    """Is the first ring of each part the one that runs anticlockwise, and is each of its holes in it, and in no smaller one?"""
+    sound = []
+    for parts in parsed(sheet)[1]:
+        outer = [part[0] for part in parts]
+        for part in parts:
+            sound.append([double_area(ring) > 0 for ring in part] == [True] + [False] * (len(part) - 1))
+            sound += [min((ring for ring in outer if is_round(ring, hole)), key=double_area, default=None) == part[0] for hole in part[1:]]
+    return all(sound)
+
+
+def areas_after(listing):
+    """What a listing says that polygons have after repair, but for those that have none."""
+    return [said.split()[2] for said in listing if said.startswith("after ") and not said.endswith(" 0")]
+
+
+def without_ground(listing):
+    return [int(said.split()[1]) for said in listing if said.startswith("after ") and said.endswith(" 0")]
+
+
+def without(numbers, count):
+    """What both programs say of a repaired sheet of so many polygons, of which these have no ground left."""
+    if not numbers:
+        return "repaired"
+    one = len(numbers) == 1
+    named = ("polygon %s, which has" if one else "polygons %s, which have") % ", ".join(map(str, numbers))
+    moved = any(number > numbers[0] and number not in numbers for number in range(1, count + 1))
+    return "repaired without %s no ground left" % named + ("; those behind %s are renumbered" % ("it" if one else "them")) * moved
+
+
+def repaired_line(verdict, listing):
+    """What both programs say of a sheet with this verdict and listing that they are to repair, but for limits."""
+    if verdict.startswith("refused"):
+        return told(verdict)
+    if not any(said.startswith("after ") for said in listing):
+        return refused(30, 0)
+    return "clean" if verdict == "clean" else without(without_ground(listing), sum(said.startswith("polygon ") for said in listing))
+
+
+WRITTEN = ("clean", "repaired")
+
+
+def repair_kind(said):
+    """The status that a line with --repair asks for."""
+    words = said.partition(": ")[2]
+    return 0 if words in WRITTEN else 1 if words.startswith("repaired without") else 3 if words.startswith("could not") else 2
+
+
+def repair_summary(lines, passed=0):
+    counts = [list(map(repair_kind, lines)).count(k) for k in range(4)]
+    sheets = "1 sheet" if len(lines) == 1 else "%d sheets" % len(lines)
+    return sheets + ": %d written, %d written without a polygon, %d refused or over the limits, %d could not be read or written; %d passed over" % (*counts, passed)
+
+
+def both_repair(programs, what, words, lines, out="out.wkb", before=None, **more):
+    """Do both print these lines and end alike, and write the same file, or none, each into a folder of its own with nothing else left in it? What was written."""
+    outcomes, written = [], []
+    ended = max(map(repair_kind, lines))
+    for name, command, last in (("checker", programs.checker, []), ("gate", programs.gate, [repair_summary(lines)])):
+        with folder_of(before or {}) as folder:
+            got = run(command, "--repair", out, *words, cwd=folder, **more)
+            found = {os.fsdecode(file): contents(os.path.join(folder, file)) for file in os.listdir(folder)}
+            outcomes.append(equal("%s, %s" % (what, name), got, (ended, lines + last, [])))
+            written.append(found.pop(out, None))
+            outcomes.append(equal("%s, %s, what is left" % (what, name), found, {k: v for k, v in (before or {}).items() if k != out}))
+    return outcomes + [equal(what + ", both files", written[0] == written[1], True)], written[0]
+
+
+def repaired_by_hand(programs, cases):
+    """Sheets made by hand, repaired: overlaps, gaps, holes, islands, polygons without ground, limits; the rings are written down here."""
+    outcomes = []
+
+    def box(x1, x2):
+        return [(x, 0) for x in range(x1, x2 + 1, 2)] + [(x, 4) for x in range(x2, x1 - 1, -2)] + [(x1, 0)]
+
+    def along(size, low=0):
+        step = range(0, size, 2)
+        ring = [(k, 0) for k in step] + [(size, k) for k in step] + [(size - k, size) for k in step] + [(0, size - k) for k in step] + [(0, 0)]
+        return [(low + x, low + y) for x, y in ring]
+
+    def hole(low, size):
+        ring = along(size - 2 * low, low)
+        return [ring[1], ring[0]] + ring[-2:0:-1]
+    shore = [(4, 2), (2, 2), (2, 4), (2, 6), (2, 8), (4, 8), (6, 8), (8, 8), (8, 6), (8, 4), (8, 2), (6, 2), (4, 2), (6, 4), (4, 4), (4, 2)]
+    sheets = {
+        os.path.join(EXAMPLES, "strip"): ("repaired", [[[box(0, 4)]], [[box(4, 8)]]]),
+        os.path.join(EXAMPLES, "clean"): ("clean", [[[box(0, 4)]], [[box(4, 8)]]]),
+        "a gap between 1 and 2 goes to 2": ("repaired", [[[box(0, 2)]], [[box(2, 8)]]]),
+        "a gap between 1 and 3 goes to 3": ("repaired without polygon 2, which has no ground left; those behind it are renumbered", [[[box(0, 2)]], [[box(2, 8)]]]),
+        "no rings of a polygon that owns nothing": ("repaired without polygon 2, which has no ground left", [[[box(0, 8)]]]),
+        "rings of two areas apart": ("clean", [[[box(0, 2)], [box(4, 6)]], [[box(2, 4)], [box(6, 8)]]]),
+        "a hole that touches the outer ring": ("clean", [[[along(6), [(2, 0), (2, 2), (4, 2), (2, 0)]]], [[[(2, 0), (4, 2), (2, 2), (2, 0)]]]]),
+        "an island in a lake, with a pond on it": ("clean", [[[along(14), hole(2, 14)], [along(6, 4), hole(6, 14)]], None]),
+        "an island that touches the shore in one corner": ("clean", [[[along(10), shore]], None]),
+        "the ring of a bow-tie": ("clean", [[[[(2, 2), (0, 0), (4, 0), (2, 2), (4, 4), (0, 4), (2, 2)]]], None]),
+        "65 areas apart": ("over the limits: polygon 1 has 65 parts after repair, and a polygon has 64 at most", None),
+        "64 holes": ("over the limits: polygon 1 has a part of 65 rings after repair, and a part has 64 at most", None),
+        "not-carried": ("refused 20 2: no set of triangles carries polygon 2", None),
+        "no-polygons": ("refused 30 0: repair can't be done, since no triangle has an owner", None),
+    }
+    for name, (said, polygons) in sheets.items():
+        path = os.path.join(cases, name + ".wkb")
+        given = contents(path)
+        more, written = both_repair(programs, name, [path], [line(path, said)])
+        got = written and parsed(written)[1]
+        wanted = polygons and [mine if mine else theirs for mine, theirs in zip(polygons, got or polygons)]
+        outcomes += more + [equal(name + ", its polygons", got, wanted), equal(name + ", the input", contents(path), given)]
+        if written:
+            outcomes += [equal(name + ", its table", parsed(written)[0], parsed(given)[0]), equal(name + ", its parts", is_in_parts(written), True)]
+    many = os.path.join(cases, "an overlap of 63, and a gap between 1 and 64.wkb")
+    said = "repaired without polygons %s, which have no ground left; those behind them are renumbered" % ", ".join(map(str, range(2, 64)))
+    more, written = both_repair(programs, "62 without ground", [many], [line(many, said)])
+    return outcomes + more + [equal("two are left", len(parsed(written)[1]), 2)]
+
+
+def repair_targets(programs):
+    """Where a repaired sheet can be written, and where not: never over the input, under whatever name; a file that is there is replaced."""
+    sheet = contents(os.path.join(EXAMPLES, "strip.wkb"))
+    repaired = parsed(both_repair(programs, "a sheet", ["-"], [line("-", "repaired")], given=sheet)[1])
+    path = os.path.join(EXAMPLES, "strip.wkb")
+    outcomes, written = both_repair(programs, "a file that is there", [path], [line(path, "repaired")], before={"out.wkb": b"old", "other": b"x"})
+    outcomes.append(equal("it is replaced", parsed(written), repaired))
+    itself = "could not be written to %s: it is the input itself"
+    more, written = both_repair(programs, "the input itself", ["out.wkb"], [line("out.wkb", itself % "out.wkb")], before={"out.wkb": sheet})
+    outcomes += more + [equal("it stays", written, sheet)]
+    for out, why in (("no/out.wkb", os.strerror(2)), (".", "it is a folder"), ("/dev/null", "it is a device"), ("out.gpkg", "a name that ends in .gpkg is a GeoPackage's"),
+                     ("x" * 300, os.strerror(36))):
+        outcomes += both_repair(programs, "no place", [path], [line(path, "could not be written to %s: %s" % (out, why))], out=out)[0]
+    outcomes += both_repair(programs, "no sheet", ["gone"], [unread("gone", 2)])[0] + both_repair(programs, "no bytes", ["-"], [line("-", EMPTY)])[0]
+    with folder_of({"a.wkb": sheet}) as folder:
+        os.link(os.path.join(folder, b"a.wkb"), os.path.join(folder, b"hard.wkb"))
+        os.symlink(b"a.wkb", os.path.join(folder, b"soft.wkb"))
+        for command in (programs.checker, programs.gate):
+            for out in ("a.wkb", "./a.wkb", "hard.wkb", "soft.wkb"):
+                outcomes.append(equal("over the input", run(command, "--repair", out, "a.wkb", cwd=folder)[:2][1][:1], [line("a.wkb", itself % out)]))
+                with open(os.path.join(folder, b"a.wkb"), "rb") as given:
+                    outcomes.append(equal("over standard input", run(command, "--repair", out, "-", cwd=folder, stdin=given)[1][:1], [line("-", itself % out)]))
+            outcomes.append(equal("what is there", (sorted(os.listdir(folder)), contents(os.path.join(folder, b"a.wkb"))), ([b"a.wkb", b"hard.wkb", b"soft.wkb"], sheet)))
+            limits = {"preexec_fn": limited(resource.RLIMIT_FSIZE, 100), "restore_signals": False, "cwd": folder}
+            full = run(command, "--repair", "new.wkb", "a.wkb", **limits)
+            outcomes.append(equal("no room", (full[0], full[1][:1], len(os.listdir(folder))), (3, [line("a.wkb", "could not be written to new.wkb: " + os.strerror(27))], 3)))
+    return outcomes
+
+
+def repair_words(programs):
+    """Words that can't be followed with --repair; nothing is written."""
+    outcomes, sheet = [], os.path.join(EXAMPLES, "strip.wkb")
+    with folder_of({}) as folder:
+        for name, command, files in (("checker", programs.checker, "one file"), ("gate", programs.gate, "one file or one folder")):
+            several = "%s: with --repair %s can be named, and not several: see %s --help" % (name, files, name)
+            outcomes.append(equal("several", run(command, "--repair", "out", sheet, sheet, cwd=folder), (3, [], [several])))
+            dash = "%s: the option --repair takes the name of a file%s, which - is not: see %s --help" % (name, " or a folder" * (name == "gate"), name)
+            outcomes.append(equal("a dash", run(command, "--repair", "-", sheet, cwd=folder), (3, [], [dash])))
+            value = "%s: the option --repair takes a value: see %s --help" % (name, name)
+            for words in ([sheet, "--repair"], ["--repair=", sheet], ["--repair", "", sheet], ["--repair=", "--help"]):
+                outcomes.append(equal("no value", run(command, *words, cwd=folder), (3, [], [value])))
+        at = "checker: --at and --repair can't be asked for at once: see checker --help"
+        outcomes.append(equal("a point", run(programs.checker, "--at", "1,1", "--repair", "out", sheet, cwd=folder), (3, [], [at])))
+        return outcomes + [equal("nothing is written", os.listdir(folder), [])]
+
+
+def repaired_folder(programs, folder, mode, way, every):
+    """The gate repairs a folder's sheets into another folder; the checker writes the same of some of them. What is written is clean by the independent program, with the
+    areas that it lists after repair; and the folder stays as it was."""
+    paths = files_of(folder, ENDS[mode // 2])
+    given = {path: contents(path) for path in paths}
+    lines = [line(path, repaired_line(*answer)) for path, answer in zip(paths, independent.answers(paths, mode, way))]
+    areas = {path: areas_after(listing) for path, (_, listing) in zip(paths, independent.answers(paths, mode, way))}
+    words = MODES[mode] + WAYS[way]
+    what = "repaired, mode %d, way %d" % (mode, way)
+    with tempfile.TemporaryDirectory() as out:
+        ended, printed, _ = run(programs.gate, "--repair", os.path.join(out, "made"), *words, folder)
+        over = [path for path, said in zip(paths, printed) if ": over the limits: " in said]
+        wanted = [said if path not in over else got for path, said, got in zip(paths, lines, printed)]
+        passed = len(files_of(folder, ENDS[1 - mode // 2]))
+        outcomes = [equal(what, (ended, printed), (max(map(repair_kind, wanted)), wanted + [repair_summary(wanted, passed)]))]
+        made = {path: os.path.join(out, "made", os.path.basename(path)) for path, said in zip(paths, wanted) if repair_kind(said) < 2}
+        outcomes.append(equal(what + ", files", sorted(os.listdir(os.path.join(out, "made"))), sorted(map(os.path.basename, made.values()))))
+        present = 2 * (mode // 2)
+        answers = dict(zip(made, independent.answers(list(made.values()), present)))
+        outcomes.append(equal(what + ", clean", {verdict for verdict, _ in answers.values()}, {"clean"}))
+        told_of = {path: [said.split()[2] for said in listing if said.startswith("polygon ")] for path, (_, listing) in answers.items()}
+        outcomes.append(equal(what + ", areas", told_of, {path: areas[path] for path in made}))
+        bodies = [contents(new)[40 * (mode // 2):] for new in made.values()]
+        outcomes.append(equal(what + ", parts", all(map(is_in_parts, bodies)), True))
+        for path in paths[::every]:
+            new = os.path.join(out, "one")
+            got = run(programs.checker, "--repair", new, *words, path)
+            said = wanted[paths.index(path)]
+            same = (contents(new) if os.path.exists(new) else None) == (contents(made[path]) if path in made else None)
+            outcomes.append(equal(what + ", checker", (got, same), ((repair_kind(said), [said], []), True)))
+            with contextlib.suppress(FileNotFoundError):
+                os.remove(new)
+    return outcomes + [equal(what + ", the inputs", {path: contents(path) for path in paths} == given, True), equal(what + ", some", len(made) > 10, True)]
+
+
+def repair_folders(programs):
+    """Folders below a folder are made again; a folder can't be repaired into itself, nor into a file."""
+    sheet = contents(os.path.join(EXAMPLES, "strip.wkb"))
+    outcomes = []
+    with folder_of({"in/a.wkb": sheet, "in/b/c.WKB": sheet, "in/b/no.wkb": b"", "in/d/note": b"x", "file": b""}) as folder:
+        for out, why in (("in", "the files of a folder are repaired into a folder outside of it: see gate --help"),
+                         ("in/b/new/x", "the files of a folder are repaired into a folder outside of it: see gate --help"),
+                         ("file", "the files of a folder are repaired into a folder, and file is none")):
+            outcomes.append(equal("no folder", run(programs.gate, "--repair", out, "in", cwd=folder), (3, [], ["gate: " + why])))
+        lines = [line("in/a.wkb", "repaired"), line("in/b/c.WKB", "repaired"), line("in/b/no.wkb", EMPTY)]
+        passed = ["gate: in/d/note: passed over: its name doesn't end in .wkb or .gpkg"]
+        outcomes.append(equal("a folder", run(programs.gate, "--repair", "out", "in", cwd=folder), (2, lines + [repair_summary(lines, 1)], passed)))
+        made = sorted(os.path.relpath(os.path.join(above, name), folder) for above, _, names in os.walk(os.path.join(folder, b"out")) for name in names)
+        outcomes.append(equal("what is made", made, [b"out/a.wkb", b"out/b/c.WKB"]))
+        os.remove(os.path.join(folder, b"out/a.wkb"))
+        os.link(os.path.join(folder, b"in/b/c.WKB"), os.path.join(folder, b"out/a.wkb"))
+        lines[0] = line("in/a.wkb", "could not be written to out/a.wkb: it is the input itself")
+        outcomes.append(equal("another input", run(programs.gate, "--repair", "out", "in", cwd=folder), (3, lines + [repair_summary(lines, 1)], passed)))
+        ended, objects, _ = run(programs.gate, "--json", "--repair", "new", "in/a.wkb", cwd=folder)
+        wanted = [{"file": "in/a.wkb", "verdict": "repaired", "without": [], "renumbered": False},
+                  {"sheets": 1, "written": 1, "without": 0, "not_written": 0, "unreadable": 0, "passed_over": 0}]
+        return outcomes + [equal("JSON", (ended, list(map(json.loads, objects))), (0, wanted))]
+
+
 # ---------------------------------------------------------------------------------------------------------------- long files
 
 
@@ -715,13 +970,17 @@ def main(checker, gate, folder):
     programs = Programs(checker, gate)
     stored = wkb_of(EXAMPLES)
     (lines, _), outcomes = in_modes(programs, "examples", stored)
-    outcomes += generated(programs, folder) + examples(programs)
+    outcomes += generated(programs, folder) + examples(programs) + repair_targets(programs) + repair_words(programs) + repair_folders(programs)
+    native = len(checker.split()) == 1  # an emulator takes ten times as long
+    for mode, way in ((0, 0), (1, 1), (2, 1), (3, 0)) if native else ((1, 1), (2, 0)):
+        outcomes += repaired_folder(programs, folder, mode, way, 25)
     with tempfile.TemporaryDirectory() as cases:
         independent.cases(cases)
         outcomes += sentences(programs, cases) + older_edition(programs, cases) + longest_boundary(programs, cases) + asked_points(programs) + blobs(programs, cases) + long_files(programs, cases)
+        outcomes += repaired_by_hand(programs, cases)
     outcomes += any_names(programs) + irregular(programs) + folders(programs) + options(programs)
     outcomes += unwritable(programs, stored) + as_they_come(programs, stored, lines) + progress_lines(programs.gate, ["-", stored[0]], ([b"1 of 2 sheets checked"], [b"2 of 2 sheets checked"]))
-    if len(checker.split()) == 1:  # an emulator needs memory of its own
+    if native:  # an emulator needs memory of its own
         outcomes += out_of_memory("checker", programs.batch, stored) + out_of_memory("gate", programs.gate, stored)
         outcomes += steady(programs) + little_stack(programs, stored)
     return tally(outcomes)
@@ -732,5 +991,7 @@ if __name__ == "__main__":
         *commands, where = sys.argv[2:]
         every, outcomes = in_all_modes(Programs(*commands), "sheets", where)
         outcomes += at_points(Programs(*commands), "sheets", where)
+        for asked in ((0, 1), (3, 0)):
+            outcomes += repaired_folder(Programs(*commands), where, *asked, 4)
         sys.exit(tally(outcomes + by_the_longest_boundary(Programs(*commands), "sheets", where, every)))
     sys.exit(main(*sys.argv[1:]))

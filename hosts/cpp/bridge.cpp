@@ -1,11 +1,11 @@
 // Calls the entries, or the functions of sheets.hpp, as the frames of standard input say, for a program that has the library on the other side of a pipe.
 // A frame: u8 function (0 numbers, 1 write, 2 owner sets, 3 owners, 4 boundary, 5 listing, 6 verdict, 7 position; 8 numbers, 9 owner sets, 10 owners, 11 boundary,
-// 12 listing by what is asked; 13 write blob, 14 areas, 15 at a point, whose x and y, i32 LE, stand before the input and count with it; 16 index; 17 owner sets, 18 owners, 19 boundary with an index), u32 LE mode, u32 LE way, u32 LE polygon, u32 LE input length, u32 LE room, input. The answer: u64 LE packed answer,
+// 12 listing by what is asked; 13 write blob, 14 areas, 15 at a point, whose x and y, i32 LE, stand before the input and count with it; 16 index; 17 owner sets, 18 owners, 19 boundary with an index; 20 rings, 21 rings with an index), u32 LE mode, u32 LE way, u32 LE polygon, u32 LE input length, u32 LE room, input. The answer: u64 LE packed answer,
 // then the lent bytes after the entry's call; lent byte i is (i * 131 + 17) % 256 before it. No bytes, of the input or lent, come with a null pointer. Bytes before
 // and behind the lent ones are watched: where a call changes one, or one of its input, the program ends with status 2. Where an index is lent, the input is a u32 LE
 // length, so many bytes of the sheet, and then the index.
 // With a room of 2^32 - 1 a function of sheets.hpp is called. The answer: u64 LE packed answer, u32 LE length, its value in so many bytes, none for a refusal; a
-// verdict is one byte, 0 clean or 1 repair, and in mode 0 a verdict, a position and areas are those without a mode, in mode 0 and way 0 a point's owner. With --stack N the calls are made on a thread with N KiB
+// verdict is one byte, 0 clean or 1 repair, and in mode 0 a verdict, a position and areas are those without a mode, in mode 0 and way 0 a point's owner and rings. With --stack N the calls are made on a thread with N KiB
 // of stack.
 #include <sheets.hpp>
 
@@ -65,7 +65,8 @@ std::uint64_t call_indexed(const Asked &asked, const Parted &p, std::uint8_t *le
         case 17: return sheet_owner_sets_indexed(p.sheet, p.size, p.index, p.length, asked.mode, lent, room);
         case 18: return sheet_owners_indexed(p.sheet, p.size, p.index, p.length, asked.mode, asked.way, lent, room);
     }
-    return sheet_boundary_indexed(p.sheet, p.size, p.index, p.length, asked.mode, asked.way, asked.polygon, lent, room);
+    const auto entry = asked.function == 19 ? sheet_boundary_indexed : sheet_rings_indexed;
+    return entry(p.sheet, p.size, p.index, p.length, asked.mode, asked.way, asked.polygon, lent, room);
 }
 
 std::uint64_t call(const Asked &asked, const std::uint8_t *input, std::size_t size, std::uint8_t *lent, std::size_t room) {
@@ -86,9 +87,11 @@ std::uint64_t call(const Asked &asked, const std::uint8_t *input, std::size_t si
         case 14: return sheet_areas(input, size, asked.mode, lent, room);
         case 15: return sheet_at(input, size, asked.mode, asked.way, asked.x, asked.y);
         case 16: return sheet_index(input, size, asked.mode, lent, room);
+        case 20: return sheet_rings(input, size, asked.mode, asked.way, asked.polygon, lent, room);
         case 17:
         case 18:
-        case 19: return call_indexed(asked, parted(input, size), lent, room);
+        case 19:
+        case 21: return call_indexed(asked, parted(input, size), lent, room);
     }
     std::exit(3);
 }
@@ -206,6 +209,7 @@ Value wrapped_indexed(const Asked &asked, const Parted &p, sheets::Mode mode, sh
     switch (asked.function) {
         case 17: return counted(sheets::owner_sets_indexed(p.sheet, p.size, index, mode), false);
         case 18: return counted(sheets::owners_indexed(p.sheet, p.size, index, mode, way), false);
+        case 21: return counted(sheets::rings_indexed(p.sheet, p.size, index, mode, way, asked.polygon), true);
     }
     return counted(sheets::boundary_indexed(p.sheet, p.size, index, mode, way, asked.polygon), false);
 }
@@ -234,9 +238,14 @@ Value wrapped(const Asked &asked, const std::uint8_t *input, std::size_t size) {
             return owner(present && way == sheets::Way::Priority ? sheets::at(input, size, asked.x, asked.y)
                                                                  : sheets::at_by(input, size, mode, way, asked.x, asked.y));
         case 16: return counted(present ? sheets::index(input, size) : sheets::index_by(input, size, mode), true);
+        case 20:
+            return counted(
+                present && way == sheets::Way::Priority ? sheets::rings(input, size, asked.polygon) : sheets::rings_by(input, size, mode, way, asked.polygon),
+                true);
         case 17:
         case 18:
-        case 19: return wrapped_indexed(asked, parted(input, size), mode, way);
+        case 19:
+        case 21: return wrapped_indexed(asked, parted(input, size), mode, way);
     }
     std::exit(3);
 }

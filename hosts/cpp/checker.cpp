@@ -1,8 +1,9 @@
-// The desktop checker's command line: prints the listing of sheets, or one verdict line for each.
+// The desktop checker's command line: prints the listing of sheets, or one verdict line for each, and writes sheets after repair.
 #include "files.hpp"
 #include "geopackage.hpp"
 #include "names.hpp"
 #include "options.hpp"
+#include "repair.hpp"
 
 #include <sheets.hpp>
 
@@ -145,8 +146,9 @@ Status unread(const std::string &name, const std::string &why, Print print) {
 int judged_rows(const std::string &path, How how, const geopackage::Chosen &chosen, Print print) {
     const Print named = print == Print::Line ? Print::Line : Print::Named;
     int worst = Clean;
-    const auto row = [&](const std::string &name, sheets::Bytes blob) {
-        worst = std::max<int>(worst, judged(name, {std::move(blob), of_blobs(how.mode), how.way, how.at}, named));
+    const auto row = [&](const geopackage::Row &found, sheets::Bytes blob) {
+        worst = std::max<int>(worst, judged(found.name, {std::move(blob), of_blobs(how.mode), how.way, how.at}, named));
+        return std::nullopt;
     };
     const auto none = [&](const std::string &name, const std::string &why) { worst = std::max<int>(worst, unread(name, why, print)); };
     geopackage::each_row(path, chosen, {row, none});
@@ -175,12 +177,99 @@ int check_all(std::vector<std::string> paths, How how, const geopackage::Chosen 
     return worst;
 }
 
+// What is said of an input that could not be written.
+Status unwritten(const std::string &name, const std::string &out, const std::string &why) {
+    put(names::shown(name) + ": could not be written to " + names::shown(out) + ": " + why + '\n');
+    return Unreadable;
+}
+
+// What is said of a sheet that was repaired, or why it wasn't.
+Status repaired(const std::string &name, const Sheet &sheet, const repair::Outcome &outcome) {
+    const bool is_refused = outcome.refusal.code != 0, is_over = !outcome.over.empty();
+    const std::string said = is_refused ? refused(sheet, outcome.refusal) : is_over ? "over the limits: " + outcome.over : repair::sentence(outcome.repaired);
+    put(names::shown(name) + ": " + said + '\n');
+    return is_refused || is_over ? Refused : outcome.repaired.without.empty() ? Clean : Repair;
+}
+
+bool is_repaired(const repair::Outcome &outcome) { return outcome.refusal.code == 0 && outcome.over.empty(); }
+
+const char not_wanted[] = "what was written is not the sheet after repair";
+
+// What was written, read again, must be the sheet that was to be.
+void expect_wanted(const sheets::Bytes &bytes, Mode mode, const std::vector<std::int64_t> &areas) {
+    if (!repair::is_clean(bytes, mode, areas)) throw files::Unwritten(not_wanted);
+}
+
+// Repairs the sheet in a file; nothing is written where it isn't repaired.
+Status repair_sheet(const std::string &path, How how, const std::string &out) {
+    const Sheet sheet = {files::read(path), how.mode, how.way, {}};
+    const repair::Outcome outcome = repair::of(sheet.bytes, sheet.mode, sheet.way);
+    if (is_repaired(outcome)) {
+        files::Draft draft(out);
+        draft.write(outcome.repaired.bytes);
+        expect_wanted(files::read(draft.name()), sheet.mode, outcome.repaired.areas);
+        draft.keep();
+    }
+    return repaired(path, sheet, outcome);
+}
+
+// Repairs the rows of a GeoPackage in a copy of it; the others stay as they are.
+int repair_rows(const std::string &path, How how, const geopackage::Chosen &chosen, const std::string &out) {
+    files::Draft draft(out);
+    const Mode mode = of_blobs(how.mode);
+    std::vector<std::optional<std::vector<std::int64_t>>> wanted;
+    int worst = Clean;
+    const auto row = [&](const geopackage::Row &found, sheets::Bytes blob) -> std::optional<sheets::Bytes> {
+        const Sheet sheet = {std::move(blob), mode, how.way, {}};
+        const repair::Outcome outcome = repair::of(sheet.bytes, sheet.mode, sheet.way);
+        const bool changes = is_repaired(outcome) && found.can_change;
+        wanted.push_back(changes ? std::optional(outcome.repaired.areas) : std::nullopt);
+        const bool is_fixed = is_repaired(outcome) && !found.can_change;
+        const char *why = "its table is a view, or has no row numbers";
+        worst = std::max<int>(worst, is_fixed ? unwritten(found.name, out, why) : repaired(found.name, sheet, outcome));
+        return changes ? std::optional(outcome.repaired.bytes) : std::nullopt;
+    };
+    const auto none = [&](const std::string &name, const std::string &why) {
+        wanted.push_back({});
+        worst = std::max<int>(worst, unread(name, why, Print::Line));
+    };
+    geopackage::each_row(path, chosen, {row, none}, draft.name());
+    std::size_t next = 0;
+    const auto again = [&](const geopackage::Row &, const sheets::Bytes &blob) -> std::optional<sheets::Bytes> {
+        const auto &expected = wanted.at(next++);
+        if (expected) expect_wanted(blob, mode, *expected);
+        return {};
+    };
+    geopackage::each_row(draft.name(), chosen, {again, [&](const std::string &, const std::string &) { next++; }});
+    if (next != wanted.size()) throw files::Unwritten(not_wanted);
+    draft.keep();
+    return worst;
+}
+
+// Repairs a file into another of its kind.
+int repair_file(const std::string &path, How how, const geopackage::Chosen &chosen, const std::string &out) {
+    const bool is_package = geopackage::is_name(path);
+    try {
+        if (is_package && !geopackage::is_name(out)) throw files::Unwritten("a GeoPackage's name ends in .gpkg");
+        if (!is_package && geopackage::is_name(out)) throw files::Unwritten("a name that ends in .gpkg is a GeoPackage's");
+        files::expect_writable(out, path);
+        if (is_package) files::expect_no_changes(out);
+        return is_package ? repair_rows(path, how, chosen, out) : repair_sheet(path, how, out);
+    } catch (const files::Unread &reason) {
+        return unread(path, reason.what(), Print::Line);
+    } catch (const files::Unwritten &reason) {
+        return unwritten(path, out, reason.what());
+    }
+}
+
 // Does what the words of the command say.
 int run(const std::vector<std::string> &words) {
     try {
         const options::Asked asked = options::asked_by(words);
         const auto way = asked.longest ? sheets::Way::Longest : sheets::Way::Priority;
-        return check_all(asked.paths, {mode_of(asked.older, asked.blob), way, asked.at}, asked.chosen, asked.batch);
+        const How how = {mode_of(asked.older, asked.blob), way, asked.at};
+        if (asked.repair) return repair_file(asked.paths.empty() ? "-" : asked.paths[0], how, asked.chosen, *asked.repair);
+        return check_all(asked.paths, how, asked.chosen, asked.batch);
     } catch (const options::Text &asked) {
         put(asked.text);
         return Clean;

@@ -1,4 +1,4 @@
-// Reading a sheet from a regular file or from standard input, never more of it than reading can look at.
+// Reading a sheet from a regular file or from standard input, never more of it than reading can look at; and files that are written beside others.
 #pragma once
 
 #include <sheets.hpp>
@@ -8,6 +8,7 @@
 #include <unistd.h>
 
 #include <cerrno>
+#include <cstdio>
 #include <cstring>
 #include <stdexcept>
 #include <string>
@@ -19,13 +20,22 @@ struct Unread : std::runtime_error {
     using std::runtime_error::runtime_error;
 };
 
+// A file that could not be written, with the reason.
+struct Unwritten : std::runtime_error {
+    using std::runtime_error::runtime_error;
+};
+
 // The reason is the system's.
 [[noreturn]] inline void fail() { throw Unread(std::strerror(errno)); }
 
+// Why a file of this kind is no sheet file; null for a regular one.
+inline const char *irregular(mode_t mode) {
+    if (S_ISREG(mode)) return nullptr;
+    return S_ISDIR(mode) ? "it is a folder" : S_ISFIFO(mode) ? "it is a pipe" : S_ISSOCK(mode) ? "it is a socket" : "it is a device";
+}
+
 inline void expect_regular(const struct stat &found) {
-    const mode_t mode = found.st_mode;
-    if (S_ISREG(mode)) return;
-    throw Unread(S_ISDIR(mode) ? "it is a folder" : S_ISFIFO(mode) ? "it is a pipe" : S_ISSOCK(mode) ? "it is a socket" : "it is a device");
+    if (const char *why = irregular(found.st_mode)) throw Unread(why);
 }
 
 // The bytes of an open file from its place on, all that reading can look at.
@@ -69,5 +79,60 @@ inline sheets::Bytes read(const std::string &path) {
     expect_regular(found);
     return first_bytes(file.number());
 }
+
+// Can a file of this name be made of that input? Where there is one, it must be regular, and not the input itself.
+inline void expect_writable(const std::string &path, const std::string &input) {
+    struct stat found, read;
+    if (stat(path.c_str(), &found) != 0) return;
+    const int known = input == "-" ? fstat(STDIN_FILENO, &read) : stat(input.c_str(), &read);
+    if (known == 0 && found.st_dev == read.st_dev && found.st_ino == read.st_ino) throw Unwritten("it is the input itself");
+    if (const char *why = irregular(found.st_mode)) throw Unwritten(why);
+}
+
+// SQLite must have no changes for a file of this name, which it would make to any file there.
+inline void expect_no_changes(const std::string &path) {
+    struct stat found;
+    for (const char *end : {"-wal", "-journal"})
+        if (stat((path + end).c_str(), &found) == 0) throw Unwritten("SQLite's changes to a file of that name stand beside it");
+}
+
+// A file in the folder of another, under a name of its own, until it is kept under the other's. Else it is gone again.
+class Draft {
+   public:
+    explicit Draft(const std::string &path) : path_(path) {
+        const std::string folder = path.substr(0, path.rfind('/') + 1);
+        for (int k = 0; number_ < 0; k++) {
+            name_ = folder + ".repair-" + std::to_string(getpid()) + '-' + std::to_string(k);
+            number_ = open(name_.c_str(), O_WRONLY | O_CREAT | O_EXCL | O_CLOEXEC, 0666);
+            if (number_ < 0 && errno != EEXIST) refuse();
+        }
+    }
+    ~Draft() {
+        close(number_);
+        if (!kept_) unlink(name_.c_str());
+    }
+    Draft(const Draft &) = delete;
+    Draft &operator=(const Draft &) = delete;
+    const std::string &name() const { return name_; }
+    // Writes all of the bytes, to the disk itself.
+    void write(const sheets::Bytes &bytes) const {
+        for (std::size_t have = 0; have < bytes.size();) {
+            const ssize_t n = ::write(number_, bytes.data() + have, bytes.size() - have);
+            if (n > 0) have += static_cast<std::size_t>(n);
+            if (n < 0 && errno != EINTR) refuse();
+        }
+        if (fsync(number_) != 0) refuse();
+    }
+    void keep() {
+        if (rename(name_.c_str(), path_.c_str()) != 0) refuse();
+        kept_ = true;
+    }
+
+   private:
+    [[noreturn]] static void refuse() { throw Unwritten(std::strerror(errno)); }
+    std::string path_, name_;
+    int number_ = -1;
+    bool kept_ = false;
+};
 
 }  // namespace files

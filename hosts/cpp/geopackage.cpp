@@ -26,8 +26,8 @@ constexpr int patience = 1000;
 // A database, open for as long as this stands. Errors are SQLite's own, in its words.
 class Base {
    public:
-    explicit Base(const std::string &uri) {
-        const int failed = sqlite3_open_v2(uri.c_str(), &base_, SQLITE_OPEN_READONLY | SQLITE_OPEN_URI | SQLITE_OPEN_NOMUTEX, nullptr);
+    explicit Base(const std::string &uri, int flags = SQLITE_OPEN_READONLY) {
+        const int failed = sqlite3_open_v2(uri.c_str(), &base_, flags | SQLITE_OPEN_URI | SQLITE_OPEN_NOMUTEX, nullptr);
         if (failed == SQLITE_OK) return;
         sqlite3_close(base_);
         if (failed == SQLITE_NOMEM) throw std::bad_alloc();
@@ -65,6 +65,7 @@ class Statement {
         if (text) sqlite3_bind_text64(statement_, place, text->data(), text->size(), SQLITE_TRANSIENT, SQLITE_UTF8);
     }
     void bind(int place, std::int64_t number) { sqlite3_bind_int64(statement_, place, number); }
+    void bind(int place, const sheets::Bytes &blob) { sqlite3_bind_blob64(statement_, place, blob.data(), blob.size(), SQLITE_TRANSIENT); }
     bool step() {
         const int stepped = sqlite3_step(statement_);
         if (stepped != SQLITE_ROW && stepped != SQLITE_DONE) base_.fail();
@@ -148,14 +149,18 @@ Way way_to(const Place &place) {
 }
 
 // The path as SQLite takes it with settings behind it.
-std::string uri(const Place &place, Way way) {
+std::string uri(const std::string &file, const std::string &settings) {
     std::string text = "file://";
-    for (char c : place.file) {
+    for (char c : file) {
         char escaped[4];
         std::snprintf(escaped, sizeof escaped, "%%%02x", static_cast<unsigned char>(c));
         text += c == '/' ? "/" : escaped;
     }
-    return text + (way == Way::Immutable ? "?immutable=1" : way == Way::WithChanges ? "?mode=ro&vfs=unix-none" : "?mode=ro");
+    return text + settings;
+}
+
+std::string uri(const Place &place, Way way) {
+    return uri(place.file, way == Way::Immutable ? "?immutable=1" : way == Way::WithChanges ? "?mode=ro&vfs=unix-none" : "?mode=ro");
 }
 
 // Sets a database up, and looks whether it is a GeoPackage.
@@ -250,6 +255,35 @@ sheets::Bytes first_bytes(const Base &base, const Column &column, std::int64_t r
     return bytes;
 }
 
+// A copy of a GeoPackage whose blobs are changed, all of them at once or none. Its pages are those of the file, with the changes that stand beside it. No trigger is
+// run: what keeps an index of frames asks for functions that SQLite has not, and the frames stay.
+class Copy {
+   public:
+    Copy(const Base &base, const std::string &name) : base_(filled(base, place_of(name).file), SQLITE_OPEN_READWRITE) {
+        sqlite3_db_config(base_.get(), SQLITE_DBCONFIG_ENABLE_TRIGGER, 0, nullptr);
+        base_.run("PRAGMA journal_mode = MEMORY; PRAGMA trusted_schema = OFF; BEGIN");
+    }
+    void put(const Column &column, std::int64_t row, const std::string &number, const sheets::Bytes &blob) const {
+        Statement change(base_, "UPDATE " + quoted(column.table) + " AS t SET " + quoted(column.column) + " = ?1 WHERE " + number + " = ?2");
+        change.bind(1, blob);
+        change.bind(2, row);
+        change.step();
+    }
+    void finish() const { base_.run("COMMIT"); }
+
+   private:
+    static std::string filled(const Base &base, const std::string &file) {
+        const Base copy(uri(file, "?mode=rw"), SQLITE_OPEN_READWRITE);
+        sqlite3_backup *pages = sqlite3_backup_init(copy.get(), "main", base.get(), "main");
+        if (pages == nullptr) copy.fail();
+        const int stepped = sqlite3_backup_step(pages, -1);
+        if (sqlite3_backup_finish(pages) != SQLITE_OK) copy.fail();
+        if (stepped != SQLITE_DONE) throw Unread(sqlite3_errstr(stepped));
+        return uri(file, "?mode=rw");
+    }
+    Base base_;
+};
+
 // The bytes of the row that a statement stands at: a blob, or the number of a row with a longer one, or NULL where such a row has no number.
 sheets::Bytes bytes_of(const Base &base, const Column &column, const Statement &row) {
     if (row.is_blob(1)) return row.blob(1);
@@ -257,15 +291,25 @@ sheets::Bytes bytes_of(const Base &base, const Column &column, const Statement &
     return first_bytes(base, column, row.number(1));
 }
 
-// Hands the rows of one column on; how many there are.
-std::size_t each_of(const Base &base, const std::string &name, const Column &column, const Chosen &chosen, const Taker &taker) {
+// What is to be written, as what could not be.
+template <class Writing>
+auto written(Writing writing) {
+    try {
+        return writing();
+    } catch (const Unread &why) {
+        throw files::Unwritten(why.what());
+    }
+}
+
+// Hands the rows of one column on, and puts what is answered into the copy; how many there are.
+std::size_t each_of(const Base &base, const std::string &name, const Column &column, const Chosen &chosen, const Taker &taker, const Copy *copy) {
     if (!is_text(column.table) || !is_text(column.column)) throw Unread("its name isn't text that a statement can have");
     const Rows rows = rows_of(base, column.table);
     const std::string geometry = "t." + quoted(column.column);
     const std::string longer = "typeof(" + geometry + ") = 'blob' AND length(" + geometry + ") > " + std::to_string(SHEETS_READ_CAP);
     Statement row(base, "SELECT CAST(" + rows.id + " AS TEXT), CASE WHEN " + longer + " THEN " + rows.number + " ELSE coalesce(CAST(" + geometry +
-                            " AS BLOB), x'') END FROM " + quoted(column.table) + " AS t" + (chosen.id ? " WHERE " + rows.id + " = ?1" : "") + " ORDER BY " +
-                            rows.id);
+                            " AS BLOB), x'') END, " + rows.number + " FROM " + quoted(column.table) + " AS t" +
+                            (chosen.id ? " WHERE " + rows.id + " = ?1" : "") + " ORDER BY " + rows.id);
     if (chosen.id) row.bind(1, *chosen.id);
     std::size_t count = 0;
     for (; row.step(); count++) {
@@ -277,7 +321,8 @@ std::size_t each_of(const Base &base, const std::string &name, const Column &col
             taker.unread(row_name, why.what());
             continue;
         }
-        taker.row(row_name, std::move(bytes));
+        const auto other = taker.row({row_name, !row.is_null(2)}, std::move(bytes));
+        if (copy != nullptr && other) written([&] { copy->put(column, row.number(2), rows.number, *other); });
     }
     return count;
 }
@@ -286,22 +331,25 @@ std::size_t each_of(const Base &base, const std::string &name, const Column &col
 
 bool is_name(const std::string &path) { return path.size() >= 5 && strcasecmp(path.c_str() + path.size() - 5, ".gpkg") == 0; }
 
-void each_row(const std::string &path, const Chosen &chosen, const Taker &taker) {
+void each_row(const std::string &path, const Chosen &chosen, const Taker &taker, const std::optional<std::string> &copied) {
     const Place place = place_of(path);
     const Way way = way_to(place);
     std::size_t found = 0;
     {
         const Base base(uri(place, way));
         begin(base, way);
+        std::optional<Copy> copy;
+        if (copied) written([&] { copy.emplace(base, *copied); });
         for (const Column &column : columns(base, chosen)) {
             const std::string name = path + '/' + column.shown;
             try {
-                found += each_of(base, name, column, chosen, taker);
+                found += each_of(base, name, column, chosen, taker, copy ? &*copy : nullptr);
             } catch (const Unread &why) {
                 taker.unread(name, why.what());
                 found++;
             }
         }
+        if (copy) written([&] { copy->finish(); });
     }
     if (place.is_changed()) throw Unread("it was changed while it was read");
     if (found == 0) throw Unread("there is no row to check in it");

@@ -16,7 +16,7 @@ namespace options {
 namespace {
 
 const char help[] =
-    "usage: checker [--batch] [--older] [--blob] [--longest] [--at X,Y] [--table NAME] [--column NAME] [--where-id N] [FILE..]\n"
+    "usage: checker [--batch] [--older] [--blob] [--longest] [--at X,Y] [--repair OUT] [--table NAME] [--column NAME] [--where-id N] [FILE..]\n"
     "Prints the listing of each sheet file, with its name above where there are several, or of standard input where no file is named.\n"
     "The verdict line of a sheet that is refused or could not be read goes to standard error.\n"
     "A file whose name ends in .gpkg is a GeoPackage: the blob in each row of its geometry columns is a sheet, FILE/TABLE/ID.\n"
@@ -25,6 +25,8 @@ const char help[] =
     "  --blob       each file is a geometry blob of a GeoPackage table, with a sheet in it\n"
     "  --longest    gaps go to the polygon that they share the longest boundary with, and not by priority; verdicts are the same\n"
     "  --at X,Y     who owns the point after repair, X and Y in whole millimetres: FILE: polygon NUMBER, or its line as with --batch\n"
+    "  --repair OUT writes the sheet with its polygons after repair to OUT, a blob as a blob, a GeoPackage as a copy of it: FILE: clean, FILE: repaired,\n"
+    "               FILE: repaired without polygon NUMBER.., FILE: over the limits: WHY, FILE: could not be written to OUT: WHY, or its line as with --batch\n"
     "  --table NAME, --column NAME, --where-id N\n"
     "               of GeoPackages only the rows of this table, of this geometry column, with this id\n"
     "  -h, --help   this text\n"
@@ -33,7 +35,8 @@ const char help[] =
     "With the codes 1 to 8 it is refused CODE ITEM at byte N: WHY, where N is the place of the fault in the file, 0 for its first byte.\n"
     "FILE is a regular file, or - for standard input. A file whose name begins with a dash is written ./-name, or behind --.\n"
     "Exit status: 0 all sheets are clean, 1 one needs repair, 2 one is refused, 3 one could not be read; the highest counts.\n"
-    "With --at it is 0 where every sheet has an owner there.\n";
+    "With --at it is 0 where every sheet has an owner there. With --repair it is 0 where every sheet is written, 1 where one is without a polygon that has no\n"
+    "ground left, 2 where one is refused or over the limits, 3 where one could not be read or written.\n";
 
 const char version[] = "checker " SHEETS_VERSION "\n";
 
@@ -52,7 +55,7 @@ std::vector<std::string> files_in(std::vector<std::string> words) {
 // Does a text begin with an option that takes a value, and go on with '=' or, as CLI11 says that it has none, with ':'?
 bool is_name(const std::string &text) {
     const std::string word = text.substr(0, text.find_first_of("=:"));
-    return word.size() < text.size() && (word == "--table" || word == "--column" || word == "--where-id" || word == "--at");
+    return word.size() < text.size() && (word == "--table" || word == "--column" || word == "--where-id" || word == "--at" || word == "--repair");
 }
 
 Misled without_value(const std::string &option) { return Misled("the option " + option + " takes a value: see checker --help"); }
@@ -110,6 +113,7 @@ Asked asked_by(const std::vector<std::string> &words) {
     add_name(app, "--column", asked.chosen.column);
     add_name(app, "--where-id", id);
     add_name(app, "--at", at);
+    add_name(app, "--repair", asked.repair);
     add_text(app, "-h,--help", help);
     add_text(app, "--version", version);
     const auto mark = std::find(words.begin(), words.end(), "--");
@@ -129,6 +133,10 @@ Asked asked_by(const std::vector<std::string> &words) {
     asked.paths = files_in(app.remaining());
     if (id && !(asked.chosen.id = number_of(*id))) throw Misled("the option --where-id takes a whole number: see checker --help");
     if (at) asked.at = point_of(*at);
+    if (asked.repair && asked.repair->empty()) throw without_value("--repair");
+    if (asked.repair && asked.at) throw Misled("--at and --repair can't be asked for at once: see checker --help");
+    if (asked.repair && asked.paths.size() > 1) throw Misled("with --repair one file can be named, and not several: see checker --help");
+    if (asked.repair == "-") throw Misled("the option --repair takes the name of a file, which - is not: see checker --help");
     return asked;
 }
 

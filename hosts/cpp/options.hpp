@@ -20,6 +20,7 @@ struct Asked {
     bool batch = false, older = false, blob = false, longest = false;
     geopackage::Chosen chosen = {};
     std::optional<Point> at = {};
+    std::optional<std::string> repair = {};
     std::vector<std::string> paths = {};
 };
 

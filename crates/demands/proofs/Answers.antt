@@ -9,6 +9,7 @@ use native.Mathlib.Omega.{arith}
 use lib.Dec.{T}
 use lib.ListN.{length, length-append}
 use Rattle.whole.specs.Sums.{All}
+use Rattle.plane.specs.Points.{Edge}
 use Rattle.plane.specs.Members.{doubleArea}
 use Rattle.lent.specs.Stages.{Answer, value, refused, andThen, needing}
 use Rattle.lent.specs.Answered.{Written, Outcome, bytes}
@@ -16,6 +17,7 @@ use Rattle.lent.proofs.Stages.{value-refused, same-refusal, chain-value, chain-
 use Rattle.lent_little.specs.Bytes.{setBytes, sideBytes}
 use Rattle.lent_little.proofs.Bytes.{set-length}
 use Rattle.owners_marks.specs.Marks.{setOf}
+use Rattle.repair_rings.specs.Rings.{lines}
 use Rattle.sheet_form.specs.Numbers.{Sheet, members}
 use Rattle.sheet_blob.specs.declared.Opened.{Opened}
 use Rattle.sheet_blob_written.specs.Normal.{Blob, writtenBlob}
@@ -26,45 +28,73 @@ use Rattle.sheet_written.specs.Fits.{sheetFits}
 use Rattle.sheet_written.specs.Given.{sheetGiven, writeOutcome}
 use Rattle.sheet_written.specs.Normal.{written}
 use Rattle.sheet_written.proofs.Given.{given-form}
+use Rattle.sheet_ring_bytes.specs.Lines.{lineBytes}
 use Rattle.judged.specs.Judged.{Judged, matched, judgedSheet, repairOf}
 use Rattle.judged.proofs.Stages.{matched-value, matched-refused}
 use Rattle.listing_lines.specs.Lines.{refusedLine}
 use Rattle.listing.specs.Listing.{listingOf, listing as listingBy}
-use Rattle.outcomes.specs.declared.Wanted.the-variants.{OwnerSets, Owners, Boundary}
-use Rattle.outcomes.specs.Entries.{u64, telling, formOf, firstOf, formOutcome, readTo, i64, areasOutcome, onSheet, ownedSides, sidesAfter, goesOn}
-use Rattle.demands.specs.Answers.{OtherEnvelope, HasOwners, HasSets, Refused, NoOwner, Repaired, KnownWay, OnSheet}
-use Rattle.demands.specs.Entries.{numbers, areas, position, write, writeBlob, ownerSets, owners, boundary, listing, outcomeOf}
+use Rattle.outcomes.specs.declared.Wanted.the-variants.{OwnerSets, Owners}
+use Rattle.outcomes.specs.Entries.{u64, telling, formOf, firstOf, formOutcome, readTo, i64, areasOutcome, onSheet, ownedSides, goesOn}
+use Rattle.demands.specs.Answers.{OtherEnvelope, HasOwners, HasSets, Refused, NoOwner, Repaired, KnownWay, OnSheet, PolygonRefused}
+use Rattle.demands.specs.Entries.{numbers, areas, position, write, writeBlob, ownerSets, owners, boundary, rings, listing, outcomeOf}
 use Rattle.demands.proofs.Envelopes.{framed-no, framed-yes}
 use Rattle.demands.proofs.Sets.{with-owners, has-owners, has-sets, owners-each, is-refused, answers-on, refuses-on}
 use Rattle.demands.proofs.After.{same-answer, after-answers, after-refuses, asked-passes, asked-refused}
 
--- ---- what the boundary entry goes on to, for a sheet with its owners
-module _ (mode : ℕ) (s : List ℕ) (all : All (λ b. b < 256) s) (n : Sheet) (sets : List (List ℕ)) (h : HasOwners mode s n sets) (way k : ℕ) where
-  abbrev then-sides : Unit {0} → Outcome
-  then-sides u = andThen (repairOf way (with-owners n sets)) (λ o. sidesAfter (ownedSides n k o))
+-- ---- what an entry makes of a polygon's boundary sides after repair, for a sheet with its owners: a text and its item
+module _ (count : List Edge → ℕ) (text : List Edge → List ℕ) where
+  abbrev made : ℕ → ℕ → Judged → Outcome
+  made way k j = andThen (needing (onSheet k (j .sheet)) 41 0) (λ _. andThen (repairOf way j) (λ o. bytes (count (ownedSides (j .sheet) k o)) (text (ownedSides (j .sheet) k o))))
 
-  boundary-answers-by : (item : ℕ) (l : List ℕ)
-      → (goesOn way (Boundary k) (with-owners n sets) ≡ bytes item l) ↔ (OnSheet n k × KnownWay way × (o : List ℕ) × Repaired way n sets o × (l ≡ flatMap sideBytes (ownedSides n k o)) × (item ≡ length (ownedSides n k o)))
-  boundary-answers-by item l =
-      let w : Written = record { item = item; text = l } in
-      let after = after-answers mode s all n sets h way (λ o. length (ownedSides n k o)) (λ o. flatMap sideBytes (ownedSides n k o)) item l in (
-        λ e. let (u, p, q) = chain-value (needing (onSheet k n) 41 0) then-sides w .0 e in let (known, o, r, f, i) = after .0 q in (asked-passes n k .0 p, known, o, r, f, i),
-        λ (on, known, o, r, f, i). chain-value (needing (onSheet k n) 41 0) then-sides w .1 (tt, asked-passes n k .1 on, after .1 (known, o, r, f, i)),
-      )
+  module _ (mode : ℕ) (s : List ℕ) (all : All (λ b. b < 256) s) (n : Sheet) (sets : List (List ℕ)) (h : HasOwners mode s n sets) (way k : ℕ) where
+    abbrev then-sides : Unit {0} → Outcome
+    then-sides u = andThen (repairOf way (with-owners n sets)) (λ o. bytes (count (ownedSides n k o)) (text (ownedSides n k o)))
 
-  boundary-refuses-by : (code item : ℕ)
-      → (goesOn way (Boundary k) (with-owners n sets) ≡ refused code item) ↔ (((code ≡ 41) × (item ≡ 0) × (OnSheet n k → ⊥))
-      ⊎ ((code ≡ 54) × (item ≡ 0) × OnSheet n k × (KnownWay way → ⊥)) ⊎ ((code ≡ 30) × (item ≡ 0) × OnSheet n k × KnownWay way × NoOwner sets))
-  boundary-refuses-by code item =
-      let after = after-refuses mode s all n sets h way (λ o. length (ownedSides n k o)) (λ o. flatMap sideBytes (ownedSides n k o)) code item in (
-        λ e. elim (chain-refused (needing (onSheet k n) 41 0) then-sides code item .0 e) [
-          | inl p ↦ inl (asked-refused n k code item .0 p)
-          | inr (u, p, q) ↦ inr (⊎-elim (λ (c, i, known). inl (c, i, asked-passes n k .0 p, known)) (λ (c, i, known, z). inr (c, i, asked-passes n k .0 p, known, z)) (after .0 q))
-        ],
-        ⊎-elim (λ r. chain-refused (needing (onSheet k n) 41 0) then-sides code item .1 (inl (asked-refused n k code item .1 r)))
-            (⊎-elim (λ (c, i, on, known). chain-refused (needing (onSheet k n) 41 0) then-sides code item .1 (inr (tt, asked-passes n k .1 on, after .1 (inl (c, i, known)))))
-            (λ (c, i, on, known, z). chain-refused (needing (onSheet k n) 41 0) then-sides code item .1 (inr (tt, asked-passes n k .1 on, after .1 (inr (c, i, known, z)))))),
-      )
+    made-answers : (item : ℕ) (l : List ℕ)
+        → (made way k (with-owners n sets) ≡ bytes item l) ↔ (OnSheet n k × KnownWay way × (o : List ℕ) × Repaired way n sets o × (l ≡ text (ownedSides n k o)) × (item ≡ count (ownedSides n k o)))
+    made-answers item l =
+        let w : Written = record { item = item; text = l } in
+        let after = after-answers mode s all n sets h way (λ o. count (ownedSides n k o)) (λ o. text (ownedSides n k o)) item l in (
+          λ e. let (u, p, q) = chain-value (needing (onSheet k n) 41 0) then-sides w .0 e in let (known, o, r, f, i) = after .0 q in (asked-passes n k .0 p, known, o, r, f, i),
+          λ (on, known, o, r, f, i). chain-value (needing (onSheet k n) 41 0) then-sides w .1 (tt, asked-passes n k .1 on, after .1 (known, o, r, f, i)),
+        )
+
+    made-refuses : (code item : ℕ)
+        → (made way k (with-owners n sets) ≡ refused code item) ↔ (((code ≡ 41) × (item ≡ 0) × (OnSheet n k → ⊥))
+        ⊎ ((code ≡ 54) × (item ≡ 0) × OnSheet n k × (KnownWay way → ⊥)) ⊎ ((code ≡ 30) × (item ≡ 0) × OnSheet n k × KnownWay way × NoOwner sets))
+    made-refuses code item =
+        let after = after-refuses mode s all n sets h way (λ o. count (ownedSides n k o)) (λ o. text (ownedSides n k o)) code item in (
+          λ e. elim (chain-refused (needing (onSheet k n) 41 0) then-sides code item .0 e) [
+            | inl p ↦ inl (asked-refused n k code item .0 p)
+            | inr (u, p, q) ↦ inr (⊎-elim (λ (c, i, known). inl (c, i, asked-passes n k .0 p, known)) (λ (c, i, known, z). inr (c, i, asked-passes n k .0 p, known, z)) (after .0 q))
+          ],
+          ⊎-elim (λ r. chain-refused (needing (onSheet k n) 41 0) then-sides code item .1 (inl (asked-refused n k code item .1 r)))
+              (⊎-elim (λ (c, i, on, known). chain-refused (needing (onSheet k n) 41 0) then-sides code item .1 (inr (tt, asked-passes n k .1 on, after .1 (inl (c, i, known)))))
+              (λ (c, i, on, known, z). chain-refused (needing (onSheet k n) 41 0) then-sides code item .1 (inr (tt, asked-passes n k .1 on, after .1 (inr (c, i, known, z)))))),
+        )
+
+  -- For every sequence of bytes.
+  module _ (mode : ℕ) (s : List ℕ) (all : All (λ b. b < 256) s) (way k : ℕ) where
+    polygon-answers : (item : ℕ) (l : List ℕ)
+        → (andThen (judgedSheet mode s) (made way k) ≡ bytes item l) ↔ ((n : Sheet) × (sets : List (List ℕ)) × HasOwners mode s n sets × OnSheet n k × KnownWay way
+        × (o : List ℕ) × Repaired way n sets o × (l ≡ text (ownedSides n k o)) × (item ≡ count (ownedSides n k o)))
+    polygon-answers item l = Iff·trans (answers-on mode s (made way k) (record { item = item; text = l })) (
+      λ (n, sets, h, e). let (on, known, o, p, f, i) = made-answers mode s all n sets h way k item l .0 e in (n, sets, h, on, known, o, p, f, i),
+      λ (n, sets, h, on, known, o, p, f, i). (n, sets, h, made-answers mode s all n sets h way k item l .1 (on, known, o, p, f, i)),
+    )
+
+    polygon-refuses : (code item : ℕ) → (andThen (judgedSheet mode s) (made way k) ≡ refused code item) ↔ PolygonRefused mode s way k code item
+    polygon-refuses code item = Iff·trans (refuses-on mode s (made way k) code item) (
+      ⊎-elim inl (λ (n, sets, h, e). inr (⊎-elim
+          (λ (c, i, off). inl (c, i, n, sets, h, off))
+          (λ rest. inr (⊎-elim (λ (c, i, on, known). inl (c, i, n, sets, h, on, known)) (λ (c, i, on, known, z). inr (c, i, n, sets, h, on, known, z)) rest))
+          (made-refuses mode s all n sets h way k code item .0 e))),
+      ⊎-elim inl (⊎-elim
+          (λ (c, i, n, sets, h, off). inr (n, sets, h, made-refuses mode s all n sets h way k code item .1 (inl (c, i, off))))
+          (⊎-elim
+          (λ (c, i, n, sets, h, on, known). inr (n, sets, h, made-refuses mode s all n sets h way k code item .1 (inr (inl (c, i, on, known)))))
+          (λ (c, i, n, sets, h, on, known, z). inr (n, sets, h, made-refuses mode s all n sets h way k code item .1 (inr (inr (c, i, on, known, z))))))),
+    )
 
 -- ---- the entries, for every sequence of bytes
 module _ (mode : ℕ) (s : List ℕ) (all : All (λ b. b < 256) s) where
@@ -272,28 +302,23 @@ module _ (mode : ℕ) (s : List ℕ) (all : All (λ b. b < 256) s) where
   pub boundary-answers : (way k item : ℕ) (l : List ℕ)
       → (outcomeOf (boundary mode way k) s ≡ bytes item l) ↔ ((n : Sheet) × (sets : List (List ℕ)) × HasOwners mode s n sets × OnSheet n k × KnownWay way
       × (o : List ℕ) × Repaired way n sets o × (l ≡ flatMap sideBytes (ownedSides n k o)) × (item ≡ length (ownedSides n k o)))
-  boundary-answers way k item l = Iff·trans (answers-on mode s (goesOn way (Boundary k)) (record { item = item; text = l })) (
-    λ (n, sets, h, e). let (on, known, o, p, f, i) = boundary-answers-by mode s all n sets h way k item l .0 e in (n, sets, h, on, known, o, p, f, i),
-    λ (n, sets, h, on, known, o, p, f, i). (n, sets, h, boundary-answers-by mode s all n sets h way k item l .1 (on, known, o, p, f, i)),
-  )
+  boundary-answers way k item l = polygon-answers length (flatMap sideBytes) mode s all way k item l
 
   -- and is refused as the set entry is, then with 41 where the "asked member isn't on the sheet", then with 54, then with 30.
-  pub boundary-refuses : (way k code item : ℕ)
-      → (outcomeOf (boundary mode way k) s ≡ refused code item) ↔ (Refused mode s code item
-      ⊎ ((code ≡ 41) × (item ≡ 0) × (n : Sheet) × (sets : List (List ℕ)) × HasOwners mode s n sets × (OnSheet n k → ⊥))
-      ⊎ ((code ≡ 54) × (item ≡ 0) × (n : Sheet) × (sets : List (List ℕ)) × HasOwners mode s n sets × OnSheet n k × (KnownWay way → ⊥))
-      ⊎ ((code ≡ 30) × (item ≡ 0) × (n : Sheet) × (sets : List (List ℕ)) × HasOwners mode s n sets × OnSheet n k × KnownWay way × NoOwner sets))
-  boundary-refuses way k code item = Iff·trans (refuses-on mode s (goesOn way (Boundary k)) code item) (
-    ⊎-elim inl (λ (n, sets, h, e). inr (⊎-elim
-        (λ (c, i, off). inl (c, i, n, sets, h, off))
-        (λ rest. inr (⊎-elim (λ (c, i, on, known). inl (c, i, n, sets, h, on, known)) (λ (c, i, on, known, z). inr (c, i, n, sets, h, on, known, z)) rest))
-        (boundary-refuses-by mode s all n sets h way k code item .0 e))),
-    ⊎-elim inl (⊎-elim
-        (λ (c, i, n, sets, h, off). inr (n, sets, h, boundary-refuses-by mode s all n sets h way k code item .1 (inl (c, i, off))))
-        (⊎-elim
-        (λ (c, i, n, sets, h, on, known). inr (n, sets, h, boundary-refuses-by mode s all n sets h way k code item .1 (inr (inl (c, i, on, known)))))
-        (λ (c, i, n, sets, h, on, known, z). inr (n, sets, h, boundary-refuses-by mode s all n sets h way k code item .1 (inr (inr (c, i, on, known, z))))))),
-  )
+  pub boundary-refuses : (way k code item : ℕ) → (outcomeOf (boundary mode way k) s ≡ refused code item) ↔ PolygonRefused mode s way k code item
+  boundary-refuses way k code item = polygon-refuses length (flatMap sideBytes) mode s all way k code item
+
+  -- ---- sheet_rings
+  -- "Join the sides of one repaired member into closed rings and write them as a WKB MultiLineString"; "the item is their number", that of the bytes. It answers exactly if
+  -- the boundary entry does,
+  pub rings-answers : (way k item : ℕ) (l : List ℕ)
+      → (outcomeOf (rings mode way k) s ≡ bytes item l) ↔ ((n : Sheet) × (sets : List (List ℕ)) × HasOwners mode s n sets × OnSheet n k × KnownWay way
+      × (o : List ℕ) × Repaired way n sets o × (l ≡ lineBytes (lines (ownedSides n k o))) × (item ≡ length (lineBytes (lines (ownedSides n k o)))))
+  rings-answers way k item l = polygon-answers (λ sides. length (lineBytes (lines sides))) (λ sides. lineBytes (lines sides)) mode s all way k item l
+
+  -- "Refusals as for the boundary entry."
+  pub rings-refuses : (way k code item : ℕ) → (outcomeOf (rings mode way k) s ≡ refused code item) ↔ PolygonRefused mode s way k code item
+  rings-refuses way k code item = polygon-refuses (λ sides. length (lineBytes (lines sides))) (λ sides. lineBytes (lines sides)) mode s all way k code item
 
   -- ---- sheet_listing
   -- It answers for every sequence of bytes, and the item is the number of bytes: the listing of the sheet with its owners; "an earlier refusal prints

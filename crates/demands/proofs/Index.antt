@@ -22,11 +22,11 @@ use Rattle.sheet_modes.specs.Modes.{readBy}
 use Rattle.judged.specs.Judged.{checkFramed, judgedSheet}
 use Rattle.judged.proofs.Stages.{framed-value, framed-refused, sheet-refused, whole-around, judged-refused}
 use Rattle.outcomes.specs.declared.Wanted.{Wanted}
-use Rattle.outcomes.specs.declared.Wanted.the-variants.{OwnerSets, Owners, Boundary, At}
+use Rattle.outcomes.specs.declared.Wanted.the-variants.{OwnerSets, Owners, Boundary, Rings, At}
 use Rattle.outcomes.specs.Entries.{textOutcome, indexOutcome, goesOn}
 use Rattle.outcomes.proofs.Index.{with-index}
 use Rattle.demands.specs.Triangles.{Passes}
-use Rattle.demands.specs.Answers.{OtherEnvelope, Refused, unread, breaks-A, breaks-B, breaks-C, unframed, not-carried, no-ground}
+use Rattle.demands.specs.Answers.{OtherEnvelope, Refused, PolygonRefused, unread, breaks-A, breaks-B, breaks-C, unframed, not-carried, no-ground}
 use Rattle.demands.specs.Entries.{index, indexed, outcomeOf}
 use Rattle.demands.specs.Index.{without}
 use Rattle.demands.proofs.Points.{at-refuses}
@@ -35,7 +35,7 @@ use Rattle.demands.proofs.Envelopes.{framed-yes}
 use Rattle.demands.proofs.Order.{is-first}
 use Rattle.demands.proofs.Sets.{is-refused}
 use Rattle.demands.proofs.After.{same-answer}
-use Rattle.demands.proofs.Answers.{owner-sets-refuses, owners-refuses, boundary-refuses}
+use Rattle.demands.proofs.Answers.{owner-sets-refuses, owners-refuses, boundary-refuses, rings-refuses}
 use Rattle.demands.proofs.Neighbours.{six-each}
 
 module _ (mode : ℕ) (s : List ℕ) where
@@ -134,6 +134,7 @@ module _ (mode : ℕ) (s : List ℕ) where
     plain OwnerSets = refl
     plain Owners = refl
     plain (Boundary polygon) = refl
+    plain (Rings polygon) = refl
     plain (At x y) = refl
 
     module _ (wanted : Wanted) where
@@ -192,10 +193,14 @@ module _ (mode : ℕ) (s : List ℕ) (all : All (λ b. b < 256) s) where
   not-53 (not-carried n p r w f) z = omega arith
   not-53 (no-ground n p r w f) z = omega arith
 
+  never-asked : {way k item : ℕ} → PolygonRefused mode s way k 53 item → ⊥
+  never-asked = ⊎-elim (λ r. not-53 r refl) (⊎-elim (λ h. omega (arith, h .0)) (⊎-elim (λ h. omega (arith, h .0)) (λ h. omega (arith, h .0))))
+
   never-53 : (way : ℕ) (wanted : Wanted) (item : ℕ) → outcomeOf (without mode way wanted) s ≡ refused 53 item → ⊥
   never-53 way OwnerSets item e = not-53 (owner-sets-refuses mode s all 53 item .0 e) refl
   never-53 way Owners item e = ⊎-elim (λ r. not-53 r refl) (⊎-elim (λ h. omega (arith, h .0)) (λ h. omega (arith, h .0))) (owners-refuses mode s all way 53 item .0 e)
-  never-53 way (Boundary k) item e = ⊎-elim (λ r. not-53 r refl) (⊎-elim (λ h. omega (arith, h .0)) (⊎-elim (λ h. omega (arith, h .0)) (λ h. omega (arith, h .0)))) (boundary-refuses mode s all way k 53 item .0 e)
+  never-53 way (Boundary k) item e = never-asked (boundary-refuses mode s all way k 53 item .0 e)
+  never-53 way (Rings k) item e = never-asked (rings-refuses mode s all way k 53 item .0 e)
   never-53 way (At x y) item e = ⊎-elim (λ r. not-53 r refl) (⊎-elim (λ h. omega (arith, h .0)) (⊎-elim (λ h. omega (arith, h .0)) (λ h. omega (arith, h .0)))) (at-refuses mode s all way x y 53 item .0 e)
 
   -- "53 for an index that differs from the table's own in length or content": exactly then, and only where there is one.

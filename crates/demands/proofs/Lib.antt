@@ -13,6 +13,7 @@ pub mod Blobs
 pub mod Room
 pub mod Carried
 pub mod Repair
+pub mod Rings
 pub mod Books
 pub mod Examples
 mod Stages

@@ -1,5 +1,6 @@
 -- What the entries go by: the owners that a sheet's triangles have, as lists and as bits, and the refusals that stand before them.
 use mathlib.Core.Path.{_≡_}
+use mathlib.Core.Logic.{_⊎_}
 use mathlib.Core.Bool.{Bool}
 use mathlib.Core.List.{List, []}
 use mathlib.Core.Option.{some}
@@ -80,3 +81,11 @@ KnownWay way = way ≤ 1
 -- The polygon of the number is on the sheet.
 abbrev pub OnSheet : Sheet → ℕ → Type 0
 OnSheet n polygon = (1 ≤ polygon) × (polygon ≤ length (n .polygons))
+
+-- The refusals of an entry that is asked for a polygon after repair: as the set entry is refused, then 41 where the "asked member isn't on the sheet", then 54, then 30.
+abbrev pub PolygonRefused : (mode : ℕ) (s : List ℕ) (way polygon code item : ℕ) → Type 0
+PolygonRefused mode s way polygon code item =
+    Refused mode s code item
+    ⊎ ((code ≡ 41) × (item ≡ 0) × (n : Sheet) × (sets : List (List ℕ)) × HasOwners mode s n sets × (OnSheet n polygon → ⊥))
+    ⊎ ((code ≡ 54) × (item ≡ 0) × (n : Sheet) × (sets : List (List ℕ)) × HasOwners mode s n sets × OnSheet n polygon × (KnownWay way → ⊥))
+    ⊎ ((code ≡ 30) × (item ≡ 0) × (n : Sheet) × (sets : List (List ℕ)) × HasOwners mode s n sets × OnSheet n polygon × KnownWay way × NoOwner sets)

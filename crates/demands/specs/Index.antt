@@ -7,9 +7,9 @@ use Rattle.plane.specs.Points.{Edge, Triangle, _⟶_, sides, sameEdge}
 use Rattle.table_neighbours.specs.Neighbours.{indexOf}
 use Rattle.sheet_written.specs.Fits.{origin}
 use Rattle.outcomes.specs.declared.Wanted.{Wanted}
-use Rattle.outcomes.specs.declared.Wanted.the-variants.{OwnerSets, Owners, Boundary, At}
+use Rattle.outcomes.specs.declared.Wanted.the-variants.{OwnerSets, Owners, Boundary, Rings, At}
 use Rattle.demands.specs.Triangles.{triangle}
-use Rattle.demands.specs.Entries.{Entry, ownerSets, owners, boundary, ownerAt}
+use Rattle.demands.specs.Entries.{Entry, ownerSets, owners, boundary, rings, ownerAt}
 
 -- Side i of triangle k: ab is side 0, bc side 1, ca side 2.
 abbrev pub sideOf : List Triangle → ℕ → ℕ → Edge
@@ -30,4 +30,5 @@ abbrev pub without : ℕ → ℕ → Wanted → Entry
 without mode way OwnerSets = ownerSets mode
 without mode way Owners = owners mode way
 without mode way (Boundary polygon) = boundary mode way polygon
+without mode way (Rings polygon) = rings mode way polygon
 without mode way (At x y) = ownerAt mode way x y

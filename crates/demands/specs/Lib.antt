@@ -9,3 +9,4 @@ pub mod Answers
 pub mod Blobs
 pub mod Points
 pub mod Index
+pub mod Rings

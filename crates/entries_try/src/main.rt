@@ -100,7 +100,7 @@ fn index(input: &[u8], lent: &mut [u8]) -> u64 {
     sheets::sheet_index(&input[4..], number(input, 0) as u32, lent)
 }
 
-// What the entries with an index answer: 16 owner sets, 17 owners, 18 boundary.
+// What the entries with an index answer: 16 owner sets, 17 owners, 18 boundary, 20 rings.
 fn with_index(entry: u8, asked: &[u8], index: &[u8], sheet: &[u8], lent: &mut [u8]) -> u64
     requires { ⌜ 12 ≤ length (now asked) ⌝ }
 {
@@ -111,6 +111,7 @@ fn with_index(entry: u8, asked: &[u8], index: &[u8], sheet: &[u8], lent: &mut [u
         16 => sheets::sheet_owner_sets_indexed(sheet, index, mode, lent),
         17 => sheets::sheet_owners_indexed(sheet, index, mode, way, lent),
         18 => sheets::sheet_boundary_indexed(sheet, index, mode, way, polygon, lent),
+        20 => sheets::sheet_rings_indexed(sheet, index, mode, way, polygon, lent),
         _ => 255,
     }
 }
@@ -128,7 +129,7 @@ fn indexed(entry: u8, input: &[u8], lent: &mut [u8]) -> u64 {
     with_index(entry, input, &rest[..size], &rest[size..], lent)
 }
 
-// What the entries answer that take what is asked as numbers: 7 numbers, 8 owner sets, 9 owners, 10 boundary, 11 listing. The mode, the way and the number of
+// What the entries answer that take what is asked as numbers: 7 numbers, 8 owner sets, 9 owners, 10 boundary, 11 listing, 19 rings. The mode, the way and the number of
 // the polygon stand before the sheet, each as a little-endian u32, also where the entry doesn't take it.
 fn by(entry: u8, input: &[u8], lent: &mut [u8]) -> u64 {
     if input.len() < 12 {
@@ -143,12 +144,13 @@ fn by(entry: u8, input: &[u8], lent: &mut [u8]) -> u64 {
         9 => sheets::sheet_owners_by(&input[12..], mode, way, lent),
         10 => sheets::sheet_boundary_by(&input[12..], mode, way, polygon, lent),
         11 => sheets::sheet_listing_by(&input[12..], mode, way, lent),
+        19 => sheets::sheet_rings(&input[12..], mode, way, polygon, lent),
         _ => 255,
     }
 }
 
 // What the entry answers: 0 numbers, 1 write, 2 owner sets, 3 owners, 4 boundary, 5 listing, 6 position, 7 to 11 those by a mode and a way, 12 write blob, 13 areas, 14 at a
-// point, 15 index, 16 to 18 those with an index. Any other answers 255, a code that no entry gives.
+// point, 15 index, 16 to 18 and 20 those with an index, 19 rings. Any other answers 255, a code that no entry gives.
 fn answer(entry: u8, input: &[u8], lent: &mut [u8]) -> u64 {
     match entry {
         0 => sheets::sheet_numbers(input, lent),
@@ -165,6 +167,7 @@ fn answer(entry: u8, input: &[u8], lent: &mut [u8]) -> u64 {
         16 => indexed(entry, input, lent),
         17 => indexed(entry, input, lent),
         18 => indexed(entry, input, lent),
+        20 => indexed(entry, input, lent),
         _ => by(entry, input, lent),
     }
 }

@@ -4,7 +4,7 @@
 -- Every place read is one of the table's, which stands at the front. Assumes nothing.
 use mathlib.Core.Path.{_≡_, refl, sym, _∙_, ap, ap₂, subst}
 use mathlib.Core.List.{List, [], _∷_, _++_, map, flatMap}
-use Prim.Native.Nat.{ℕ, zero, suc, _+_, _-_, _*_, _≤_, _<_}
+use Prim.Native.Nat.{ℕ, zero, suc, _+_, _*_, _≤_, _<_}
 use native.Mathlib.Omega.{arith}
 use lib.ListN.{length, getD, take, length-map}
 use lib.Seq.{ext-getD}
@@ -15,7 +15,7 @@ use Rattle.plane.specs.Corners.{millimetres}
 use Rattle.plane.specs.Keys.{Held, keyOf, pointAt, pair}
 use Rattle.plane.specs.Boundaries.{sidesOf}
 use Rattle.table.specs.Table.{RuleB}
-use Rattle.table.specs.Sides.{trianglesOf, tailsOf, sideAt}
+use Rattle.table.specs.Sides.{trianglesOf, sideAt}
 use Rattle.table.specs.Opposites.{opposites}
 use Rattle.plane_lengths.specs.Lengths.{lengthOf, lengthsOf}
 use Rattle.table.proofs.Shares.{length-sides, length-opposites, side-at}
@@ -26,6 +26,7 @@ use Rattle.repair_sides.specs.Sides.{boundarySides, trianglesOwned}
 use Rattle.repair_sides.specs.Numbered.{boundaryNumbers}
 use Rattle.repair_sides.proofs.Bounding.{by-number}
 use Rattle.repair_sides.proofs.Laying.{bounding-below}
+use Rattle.repair_sweep.proofs.Places.{tail-is}
 use Rattle.sheet_form.specs.Numbers.{Sheet, memberNumbers, counted}
 use Rattle.lent_little.specs.Bytes.{pointBytes, sideBytes}
 use Rattle.lent_little.specs.Held.{endOf, cornerHeld, sideHeld}
@@ -46,18 +47,6 @@ front-at zero l i h = absurd (omega arith)
 front-at (suc size) [] i h = refl
 front-at (suc size) (x ∷ l) zero h = refl
 front-at (suc size) (x ∷ l) (suc i) h = front-at size l i (omega arith)
-
--- ---- the corner at which a side ends
-tail-is : (keys : List ℕ) (n : ℕ) → length keys ≡ 3 * n → (k : ℕ) → k < length keys → getD (tailsOf keys) k 0 ≡ getD keys (endOf k) 0
-tail-is [] n e k h = absurd (omega arith)
-tail-is (a ∷ []) n e k h = absurd (omega arith)
-tail-is (a ∷ b ∷ []) n e k h = absurd (omega arith)
-tail-is (a ∷ b ∷ c ∷ l) n e zero h = refl
-tail-is (a ∷ b ∷ c ∷ l) n e (suc zero) h = refl
-tail-is (a ∷ b ∷ c ∷ l) n e (suc (suc zero)) h = refl
-tail-is (a ∷ b ∷ c ∷ l) n e (suc (suc (suc k))) h =
-    let z : suc (suc (suc (endOf k))) ≡ endOf (suc (suc (suc k))) = omega arith in
-    tail-is l (n - 1) (omega arith) k (omega arith) ∙ ap (λ i. getD (a ∷ b ∷ c ∷ l) i 0) z
 
 -- ---- for corners of n triangles, as they stand among held numbers at the front of a list
 module _ (size : ℕ) (long : List ℕ) (held : All Held (take size long)) (keys : List ℕ) (n : ℕ) (whole : length keys ≡ 3 * n)

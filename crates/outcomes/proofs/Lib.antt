@@ -1,6 +1,7 @@
 -- The laws of what the entries come to.
 pub mod Outcomes
 pub mod Position
+pub mod Rings
 pub mod Judged
 pub mod Point
 pub mod Sized

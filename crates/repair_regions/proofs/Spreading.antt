@@ -16,18 +16,18 @@ use Rattle.repair_regions.specs.Spreading.{Paired, marked, Meeting, Take
 use Rattle.repair_regions.proofs.Regions.{region-closed, region-own, not-both}
 
 -- ---- the number of marks
-marked-set : (l : List Bool) (t : ℕ) → t < length l → getD l t false ≡ false → marked (set l t true) ≡ suc (marked l)
+pub marked-set : (l : List Bool) (t : ℕ) → t < length l → getD l t false ≡ false → marked (set l t true) ≡ suc (marked l)
 marked-set [] t h e = absurd (omega arith)
 marked-set (true ∷ l) zero h e = absurd (let z : _≡_ {A = ℕ} 1 0 = ap bit e in omega arith)
 marked-set (false ∷ l) zero h e = omega arith
 marked-set (b ∷ l) (suc t) h e = omega (arith, marked-set l t (omega arith) e)
 
-marked-most : (l : List Bool) → marked l ≤ length l
+pub marked-most : (l : List Bool) → marked l ≤ length l
 marked-most [] = omega arith
 marked-most (true ∷ l) = omega (arith, marked-most l)
 marked-most (false ∷ l) = omega (arith, marked-most l)
 
-marked-less : (l : List Bool) (t : ℕ) → t < length l → getD l t false ≡ false → marked l < length l
+pub marked-less : (l : List Bool) (t : ℕ) → t < length l → getD l t false ≡ false → marked l < length l
 marked-less l t h e = omega (arith, marked-set l t h e, marked-most (set l t true), length-set l t true)
 
 -- ---- one triangle more

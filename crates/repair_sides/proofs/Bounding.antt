@@ -204,7 +204,7 @@ sides-numbered (a ∷ b ∷ c ∷ l) n e (x ∷ s) f =
     go true r = ap (λ m. sideAt keys 0 ∷ sideAt keys 1 ∷ sideAt keys 2 ∷ m) r
     go false r = r
 
-owned-at : (p : ℕ) (owners : List ℕ) (t : ℕ) → t < length owners → getD (ownedBy p owners) t false ≡ eqb (getD owners t 0) p
+pub owned-at : (p : ℕ) (owners : List ℕ) (t : ℕ) → t < length owners → getD (ownedBy p owners) t false ≡ eqb (getD owners t 0) p
 owned-at p [] t h = absurd (omega arith)
 owned-at p (o ∷ l) zero h = refl
 owned-at p (o ∷ l) (suc t) h = owned-at p l t (omega arith)

@@ -77,9 +77,7 @@ fn header(out: &mut [u8], to: usize, kind: Kind, n: u32)
     requires { ⌜ to ≤ 500000 ⌝ }
     ensures { λ _. ⌜ now (out .exit) ≡ sets (now (out .entry)) to (headerOf true kind n) ⌝ }
 {
-    lent_little::put(out, to, 1, 1);
-    lent_little::put(out, to + 1, kind.number() as u64, 4);
-    lent_little::put(out, to + 5, n as u64, 4);
+    wkb_header::put(out, to, kind.number(), n);
 }
 
 // The walk with something wrong.

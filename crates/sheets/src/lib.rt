@@ -3,7 +3,7 @@
 ghost use mathlib.Core.Path.{_≡_};
 ghost use mathlib.Core.List.{[]};
 ghost use Rattle.lent.specs.Answered.{Answered, answerOf};
-ghost use Rattle.outcomes.specs.Entries.{sheetNumbers, sheetNumbersBy, sheetAreas, sheetPosition, sheetWrite, sheetWriteBlob, sheetOwnerSets, sheetOwnerSetsBy, sheetOwners, sheetOwnersBy, sheetBoundary, sheetBoundaryBy, sheetListing, sheetListingBy, sheetAt, sheetIndex, sheetOwnerSetsIndexed, sheetOwnersIndexed, sheetBoundaryIndexed};
+ghost use Rattle.outcomes.specs.Entries.{sheetNumbers, sheetNumbersBy, sheetAreas, sheetPosition, sheetWrite, sheetWriteBlob, sheetOwnerSets, sheetOwnerSetsBy, sheetOwners, sheetOwnersBy, sheetBoundary, sheetBoundaryBy, sheetListing, sheetListingBy, sheetAt, sheetIndex, sheetOwnerSetsIndexed, sheetOwnersIndexed, sheetBoundaryIndexed, sheetRings, sheetRingsIndexed};
 use outcomes::Asked;
 use outcomes::Wanted;
 
@@ -79,7 +79,7 @@ pub extern "C" fn sheet_write_blob(numbers: &[u8], out: &mut [u8]) -> u64
 pub extern "C" fn sheet_numbers_by(sheet: &[u8], mode: u32, out: &mut [u8]) -> u64
     ensures { λ r. ⌜ Answered (sheetNumbersBy mode (now (sheet .entry))) (now (out .entry)) r (now (out .exit)) ⌝ }
 {
-    sheets_answers::numbers(sheet, mode, out)
+    sheets_numbers::numbers(sheet, mode, out)
 }
 
 // The double area of each polygon, from its corners alone, of a sheet that is read in a mode: a little-endian i64 for each, in number order; the item is the number
@@ -88,7 +88,7 @@ pub extern "C" fn sheet_numbers_by(sheet: &[u8], mode: u32, out: &mut [u8]) -> u
 pub extern "C" fn sheet_areas(sheet: &[u8], mode: u32, out: &mut [u8]) -> u64
     ensures { λ r. ⌜ Answered (sheetAreas mode (now (sheet .entry))) (now (out .entry)) r (now (out .exit)) ⌝ }
 {
-    sheets_answers::areas(sheet, mode, out)
+    sheets_numbers::areas(sheet, mode, out)
 }
 
 // The owners of each triangle before repair, of a sheet that is read in a mode.
@@ -151,12 +151,37 @@ pub extern "C" fn sheet_boundary_by(
     )
 }
 
+// The boundary sides of a polygon after repair in a way, joined into closed rings, of a sheet that is read in a mode: a WKB MultiLineString; the item is the number
+// of bytes.
+#[no_mangle]
+pub extern "C" fn sheet_rings(
+    sheet: &[u8],
+    mode: u32,
+    way: u32,
+    polygon: u32,
+    out: &mut [u8],
+) -> u64
+    ensures { λ r. ⌜ Answered (sheetRings mode way polygon (now (sheet .entry))) (now (out .entry)) r (now (out .exit)) ⌝ }
+{
+    sheets_answers::answer(
+        Asked {
+            mode: mode,
+            way: way,
+            wanted: Wanted::Rings(polygon),
+            indexed: false,
+        },
+        sheet,
+        &[0u8; 0],
+        out,
+    )
+}
+
 // The printed listing of a sheet that is read in a mode and repaired in a way.
 #[no_mangle]
 pub extern "C" fn sheet_listing_by(sheet: &[u8], mode: u32, way: u32, out: &mut [u8]) -> u64
     ensures { λ r. ⌜ Answered (sheetListingBy mode way (now (sheet .entry))) (now (out .entry)) r (now (out .exit)) ⌝ }
 {
-    sheets_answers::listing(sheet, mode, way, out)
+    sheets_listing::listing(sheet, mode, way, out)
 }
 
 // What is at the point: the number of the polygon that owns it after repair in a way, as the item, of a sheet that is read in a mode. No bytes are lent.
@@ -252,6 +277,31 @@ pub extern "C" fn sheet_boundary_indexed(
             mode: mode,
             way: way,
             wanted: Wanted::Boundary(polygon),
+            indexed: true,
+        },
+        sheet,
+        index,
+        out,
+    )
+}
+
+// The same sides joined into closed rings, with an index that is lent.
+#[no_mangle]
+pub extern "C" fn sheet_rings_indexed(
+    sheet: &[u8],
+    index: &[u8],
+    mode: u32,
+    way: u32,
+    polygon: u32,
+    out: &mut [u8],
+) -> u64
+    ensures { λ r. ⌜ Answered (sheetRingsIndexed mode way polygon (now (index .entry)) (now (sheet .entry))) (now (out .entry)) r (now (out .exit)) ⌝ }
+{
+    sheets_answers::answer(
+        Asked {
+            mode: mode,
+            way: way,
+            wanted: Wanted::Rings(polygon),
             indexed: true,
         },
         sheet,

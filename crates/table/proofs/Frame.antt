@@ -24,7 +24,7 @@ use Rattle.plane.proofs.Cuts.{Piece, pieces-cut}
 use Rattle.table.specs.Table.{least, greatest, Frame, frameOf, outlineOf}
 
 -- ---- the width and the height of the frame
-least-all : (k : Point → ℤ) (p : Point) (l : List Point) → All (λ q. least k p l ≤ℤ k q) (p ∷ l)
+pub least-all : (k : Point → ℤ) (p : Point) (l : List Point) → All (λ q. least k p l ≤ℤ k q) (p ∷ l)
 unfolding least
 least-all k p [] = (≤ℤ-refl (k p), tt)
 least-all k p (q ∷ l) = (
@@ -32,7 +32,7 @@ least-all k p (q ∷ l) = (
   all-map (λ r. least k q l ≤ℤ k r) (λ r. least k p (q ∷ l) ≤ℤ k r) (λ r h. ≤-trans _ (least k q l) (k r) (smaller-right (k p) (least k q l)) h) (q ∷ l) (least-all k q l),
 )
 
-greatest-all : (k : Point → ℤ) (p : Point) (l : List Point) → All (λ q. k q ≤ℤ greatest k p l) (p ∷ l)
+pub greatest-all : (k : Point → ℤ) (p : Point) (l : List Point) → All (λ q. k q ≤ℤ greatest k p l) (p ∷ l)
 unfolding greatest
 greatest-all k p [] = (≤ℤ-refl (k p), tt)
 greatest-all k p (q ∷ l) = (

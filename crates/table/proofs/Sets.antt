@@ -77,7 +77,7 @@ apart w (a ∷ l) (true ∷ s) (false ∷ t) e = let h = apart w l s t (omega ar
 apart w (a ∷ l) (false ∷ s) (true ∷ t) e = let h = apart w l s t (omega arith) in omega arith
 apart w (a ∷ l) (false ∷ s) (false ∷ t) e = let h = apart w l s t (omega arith) in omega arith
 
-split : {A : Type 0} (w : A → ℕ) (l : List A) (s : List Bool) → length s ≡ length l → tally w (chosen l s) + tally w (chosen l (map not s)) ≡ tally w l
+pub split : {A : Type 0} (w : A → ℕ) (l : List A) (s : List Bool) → length s ≡ length l → tally w (chosen l s) + tally w (chosen l (map not s)) ≡ tally w l
 unfolding tally
 split w [] s e = omega arith
 split w (a ∷ l) [] e = absurd (omega arith)

@@ -82,14 +82,14 @@ unfolding net
 at-reverse l m e p = simp zify (omega (arith, simp zify at p))
 
 -- ---- counts over the marked members
-fewer : {A : Type 0} (w : A → ℕ) (l : List A) (s : List Bool) → tally w (chosen l s) ≤ tally w l
+pub fewer : {A : Type 0} (w : A → ℕ) (l : List A) (s : List Bool) → tally w (chosen l s) ≤ tally w l
 unfolding tally
 fewer w [] s = omega arith
 fewer w (a ∷ l) [] = omega arith
 fewer w (a ∷ l) (true ∷ s) = omega (arith, fewer w l s)
 fewer w (a ∷ l) (false ∷ s) = omega (arith, fewer w l s)
 
-part : {A : Type 0} (w : A → ℕ) (l : List A) (a : A) (i : ℕ) → i < length l → w (getD l i a) ≤ tally w l
+pub part : {A : Type 0} (w : A → ℕ) (l : List A) (a : A) (i : ℕ) → i < length l → w (getD l i a) ≤ tally w l
 unfolding tally
 part w [] a i h = absurd (omega arith)
 part w (x ∷ l) a zero h = omega arith
@@ -153,7 +153,7 @@ side-at (a ∷ b ∷ c ∷ l) n e (suc (suc zero)) = refl
 side-at (a ∷ b ∷ c ∷ l) n e (suc (suc (suc k))) = side-at l (n - 1) (omega arith) k
 
 -- Side k is a side of triangle k / 3.
-own-side : (keys : List ℕ) (n : ℕ) → length keys ≡ 3 * n → (t : Triangle) (k : ℕ) → k < length keys → 1 ≤ # (sideAt keys k) (sides (getD (trianglesOf keys) (k / 3) t))
+pub own-side : (keys : List ℕ) (n : ℕ) → length keys ≡ 3 * n → (t : Triangle) (k : ℕ) → k < length keys → 1 ≤ # (sideAt keys k) (sides (getD (trianglesOf keys) (k / 3) t))
 own-side [] n e t k h = absurd (omega arith)
 own-side (a ∷ []) n e t k h = absurd (omega arith)
 own-side (a ∷ b ∷ []) n e t k h = absurd (omega arith)

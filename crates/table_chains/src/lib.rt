@@ -6,7 +6,8 @@ ghost use Rattle.whole.specs.Tests.{Told};
 ghost use Rattle.whole.specs.Sums.{All};
 ghost use Rattle.whole_order.specs.Ascending.{Distinct};
 ghost use Rattle.table.specs.Sides.{FirstRepeat};
-ghost use Rattle.table_sides.specs.Codes.{numberIn, turnedIn};
+ghost use Rattle.table_sides.specs.Codes.{turnedIn};
+ghost use Rattle.table_sides.specs.Numbered.{numberIn};
 ghost use Rattle.table_sides.specs.Chains.{nextIn, clearIn};
 ghost use Rattle.table_chains.specs.Linking.{Within, LinkedTo, Hung};
 

@@ -12,7 +12,7 @@ use Rattle.table.specs.Opposites.{foundAt}
 use Rattle.table.proofs.Shares.{Found, found-at}
 use Rattle.whole_order.specs.Ascending.{Ascending, IsIn, placeOf}
 use Rattle.whole_order.proofs.Ascending.{place-of}
-use Rattle.table_sides.specs.Codes.{numberIn}
+use Rattle.table_sides.specs.Numbered.{numberIn}
 use Rattle.table_count.proofs.Ranked.{number-at, number-stands}
 
 -- ---- corners

@@ -11,7 +11,7 @@ use lib.ListN.{length, getD}
 use Rattle.whole.proofs.Sums.{all-at}
 use Rattle.table.specs.Opposites.{later}
 use Rattle.whole_order.specs.Ascending.{Ascending, IsIn}
-use Rattle.table_sides.specs.Codes.{numberIn}
+use Rattle.table_sides.specs.Numbered.{numberIn}
 
 -- Each corner's number is one more than its place.
 pub number-at : (l : List ℕ) (i : ℕ) → Ascending l → i < length l → numberIn (getD l i 0) l ≡ suc i

@@ -14,7 +14,8 @@ use Rattle.plane.specs.Keys.{pointAt, Key, pair, pairs, pointsAt}
 use Rattle.table.specs.Sides.{netOf}
 use Rattle.table.specs.Opposites.{foundAt}
 use Rattle.whole_order.specs.Ascending.{Ascending, IsIn}
-use Rattle.table_sides.specs.Codes.{codeOf, numberIn}
+use Rattle.table_sides.specs.Codes.{codeOf}
+use Rattle.table_sides.specs.Numbered.{numberIn}
 use Rattle.table_sides.specs.Chains.{codeIn, clearIn, Last, Chained}
 
 -- ---- how corners and sides are looked up

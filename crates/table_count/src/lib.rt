@@ -8,7 +8,7 @@ ghost use Rattle.plane.specs.Points.{Edge};
 ghost use Rattle.plane.specs.Keys.{Key, pair};
 ghost use Rattle.table.specs.Opposites.{foundAt};
 ghost use Rattle.whole_order.specs.Ascending.{Ascending};
-ghost use Rattle.table_sides.specs.Codes.{numberIn};
+ghost use Rattle.table_sides.specs.Numbered.{numberIn};
 ghost use Rattle.table.specs.Sides.{evenly};
 ghost use Rattle.table_count.specs.Counting.{Looked, NextStop};
 

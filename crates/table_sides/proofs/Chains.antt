@@ -8,7 +8,7 @@ use native.Mathlib.Decide.{decLe, ℕ-discrete}
 use borrow.Author.Tests.{eq-eqb, ne-eqb}
 use lib.ListN.{length, getD}
 use Rattle.whole_order.specs.Ascending.{Distinct}
-use Rattle.table_sides.specs.Codes.{numberIn}
+use Rattle.table_sides.specs.Numbered.{numberIn}
 use Rattle.table_sides.specs.Chains.{Last}
 
 -- ---- the last number of which something holds

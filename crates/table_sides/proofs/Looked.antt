@@ -18,7 +18,8 @@ use Rattle.table.specs.Sides.{tailsOf}
 use Rattle.table.specs.Opposites.{later, foundAt, opposites}
 use Rattle.whole_order.specs.Ascending.{Ascending, IsIn, placeOf, ascending}
 use Rattle.whole_order.proofs.Ascending.{ascending-is, ascending-has, length-ascending, place-found}
-use Rattle.table_sides.specs.Codes.{codeOf, turned, codesOf, numberIn, turnedIn}
+use Rattle.table_sides.specs.Codes.{codeOf, turned, codesOf, turnedIn}
+use Rattle.table_sides.specs.Numbered.{numberIn}
 
 -- ---- pairs of numbers
 -- Pairs with one edge are one.

@@ -1,10 +1,8 @@
 -- Sides as one number each, by which they are looked up: the places of the two corners among the table's corners in ascending order.
-use mathlib.Core.Bool.{cond}
 use mathlib.Core.List.{List, [], _∷_, map}
-use Prim.Native.Nat.{ℕ, suc, _+_, _*_, _/_, _%_}
-use lib.Dec.{eqb}
+use Prim.Native.Nat.{ℕ, _+_, _*_, _/_, _%_}
 use Rattle.whole_order.specs.Ascending.{placeOf}
-use Rattle.table.specs.Opposites.{later}
+use Rattle.table_sides.specs.Numbered.{numberIn}
 
 -- The code of the ordered pair of two corners; a table has at most 3,072 of them.
 abbrev pub codeOf : List ℕ → ℕ → ℕ → ℕ
@@ -19,11 +17,6 @@ abbrev pub codesOf : List ℕ → List ℕ → List ℕ → List ℕ
 codesOf corners [] l = []
 codesOf corners (u ∷ k) [] = []
 codesOf corners (u ∷ k) (v ∷ l) = codeOf corners u v ∷ codesOf corners k l
-
--- The number, counted from 1, of the first in a list that is c; 0 where there is none.
-abbrev pub numberIn : ℕ → List ℕ → ℕ
-numberIn c [] = 0
-numberIn c (x ∷ l) = cond (eqb x c) 1 (later (numberIn c l))
 
 -- For each code the number of its reverse.
 abbrev pub turnedIn : List ℕ → List ℕ

@@ -10,7 +10,7 @@ ghost use Rattle.whole.specs.Sums.{All};
 ghost use Rattle.plane.specs.Points.{Edge};
 ghost use Rattle.whole_order.specs.Ascending.{Ascending};
 ghost use Rattle.table.specs.Sides.{evenly};
-ghost use Rattle.table_sides.specs.Codes.{numberIn};
+ghost use Rattle.table_sides.specs.Numbered.{numberIn};
 ghost use Rattle.table_count.specs.Counting.{Looked, Edged, Tallied, Settled, Stray, piecesOf};
 ghost use Rattle.table_tally.specs.Direct.{notedAt, added, Direct, Countable, Counted};
 

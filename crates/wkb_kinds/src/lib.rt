@@ -13,7 +13,11 @@ pub enum Kind {
 }
 
 impl Kind {
+    pub const LINE_STRING: u32 = 2;
+
     pub const POLYGON: u32 = 3;
+
+    pub const MULTI_LINE_STRING: u32 = 5;
 
     pub const MULTI_POLYGON: u32 = 6;
 

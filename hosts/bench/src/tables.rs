@@ -16,11 +16,12 @@ pub const ALL: [(&str, fn()); 4] = [("entries", entries), ("native", beside_nati
 const ROOM: usize = sheets::WRITE_BLOB_ROOM;
 
 /// The entries on hostile sheets, those first that have a column.
-const ENTRIES: [Entry; 9] = [
+const ENTRIES: [Entry; 10] = [
     Entry::OwnerSets,
     Entry::Owners,
     Entry::Listing,
     Entry::Boundary(1),
+    Entry::Rings(0, 0, 1),
     Entry::OwnerSetsBy(1),
     Entry::Numbers,
     Entry::Position(0),
@@ -44,7 +45,7 @@ pub fn kinds() -> [(&'static str, Vec<Vec<u8>>); 6] {
 fn entries() {
     println!("| Sheets | Entry | Bytes in | Library, µs | Independent, µs | Library / independent | Library, MB/s | Independent, MB/s |");
     println!("|---|---|---|---|---|---|---|---|");
-    let judging = [Entry::OwnerSets, Entry::Owners, Entry::Boundary(1), Entry::Listing];
+    let judging = [Entry::OwnerSets, Entry::Owners, Entry::Boundary(1), Entry::Rings(0, 0, 1), Entry::Listing];
     let reading = [Entry::Numbers, Entry::NumbersBy(0), Entry::NumbersBy(1), Entry::Position(0), Entry::Areas(0), Entry::Index(0), Entry::Write];
     let of_blobs = [Entry::NumbersBy(2), Entry::WriteBlob, Entry::OwnerSetsBy(0), Entry::OwnerSetsBy(2)];
     let entries = [&reading[..], &judging, &of_blobs].concat();
@@ -150,12 +151,14 @@ fn word(entry: Entry) -> String {
         Entry::OwnerSetsBy(mode) => by("sheet_owner_sets_by", mode),
         Entry::OwnersBy(mode, _) => by("sheet_owners_by", mode),
         Entry::BoundaryBy(mode, ..) => by("sheet_boundary_by", mode),
+        Entry::Rings(mode, ..) => by("sheet_rings", mode),
         Entry::ListingBy(mode, _) => by("sheet_listing_by", mode),
         Entry::At(mode, ..) => by("sheet_at", mode),
         Entry::Index(mode) => by("sheet_index", mode),
         Entry::OwnerSetsIndexed(_, mode) => by("sheet_owner_sets_indexed", mode),
         Entry::OwnersIndexed(_, mode, _) => by("sheet_owners_indexed", mode),
         Entry::BoundaryIndexed(_, mode, ..) => by("sheet_boundary_indexed", mode),
+        Entry::RingsIndexed(_, mode, ..) => by("sheet_rings_indexed", mode),
     }
 }
 

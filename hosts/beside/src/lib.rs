@@ -18,6 +18,7 @@ pub fn call(entry: Entry, input: &[u8], out: &mut [u8]) -> Result<u64, Refusal> 
         Entry::OwnerSetsBy(mode) => lent::owner_sets_by(input, mode, out),
         Entry::OwnersBy(mode, way) => lent::owners_by(input, mode, way, out),
         Entry::BoundaryBy(mode, way, polygon) => lent::boundary_by(input, mode, way, polygon, out),
+        Entry::Rings(mode, way, polygon) => lent::rings(input, mode, way, polygon, out),
         Entry::ListingBy(mode, way) => lent::listing_by(input, mode, way, out),
         Entry::WriteBlob => lent::write_blob(input, out),
         Entry::At(mode, way, x, y) => lent::at(input, mode, way, x, y),
@@ -27,5 +28,6 @@ pub fn call(entry: Entry, input: &[u8], out: &mut [u8]) -> Result<u64, Refusal> 
         Entry::BoundaryIndexed(index, mode, way, polygon) => {
             lent::boundary_indexed(input, &Input::new(input).lent(index, mode), mode, way, polygon, out)
         }
+        Entry::RingsIndexed(index, mode, way, polygon) => lent::rings_indexed(input, &Input::new(input).lent(index, mode), mode, way, polygon, out),
     }
 }

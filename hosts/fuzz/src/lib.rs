@@ -22,6 +22,7 @@ pub unsafe extern "C" fn LLVMFuzzerTestOneInput(data: *const u8, size: usize) ->
     let older = [Entry::OwnerSetsBy(1), Entry::OwnersBy(1, way), Entry::BoundaryBy(1, way, asked), Entry::ListingBy(1, way)];
     let mode = 2 + asked % 2;
     let of_blobs = [Entry::NumbersBy(mode), Entry::Position(mode), Entry::OwnerSetsBy(mode), Entry::OwnersBy(mode, way)];
+    let rings = [Entry::Rings(0, way, asked), Entry::Rings(mode, 0, 1)];
     let more = [Entry::Areas(mode), Entry::BoundaryBy(mode, way, asked), Entry::ListingBy(mode, way), Entry::WriteBlob];
     let coordinate = |back: usize| input.len().checked_sub(back).map_or(0, |at| i32::from(input[at] as i8)) << (7 * asked);
     let (x, y) = (coordinate(2), coordinate(3));
@@ -29,8 +30,18 @@ pub unsafe extern "C" fn LLVMFuzzerTestOneInput(data: *const u8, size: usize) ->
     let every = Lent::every(input.len() as u16);
     let lent = every[size % every.len()];
     let index = [Entry::Index(0), Entry::Index(mode), Entry::OwnerSetsIndexed(Lent::Own, 0), Entry::OwnersIndexed(lent, 0, way)];
-    let indexed = [Entry::BoundaryIndexed(lent, mode, way, asked), Entry::OwnerSetsIndexed(lent, mode)];
-    let entries = reading.into_iter().chain(areas).chain(entries).chain(older).chain(of_blobs).chain(more).chain(points).chain(index).chain(indexed);
+    let indexed = [Entry::BoundaryIndexed(lent, mode, way, asked), Entry::RingsIndexed(lent, mode, way, asked), Entry::OwnerSetsIndexed(lent, mode)];
+    let entries = reading
+        .into_iter()
+        .chain(areas)
+        .chain(entries)
+        .chain(older)
+        .chain(of_blobs)
+        .chain(more)
+        .chain(rings)
+        .chain(points)
+        .chain(index)
+        .chain(indexed);
     let mut difference = entries.into_iter().find_map(|entry| compare(entry, input));
     for (mode, write) in [(0, Entry::Write), (1, Entry::Write), (2, Entry::WriteBlob), (3, Entry::WriteBlob)] {
         if let Ok(numbers) = whole(Entry::NumbersBy(mode), input) {

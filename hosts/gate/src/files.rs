@@ -1,10 +1,13 @@
-//! Which files the gate looks at, and reading a sheet: from a regular file or from standard input, never more of it than reading can look at.
+//! Which files the gate looks at, and reading a sheet: from a regular file or from standard input, never more of it than reading can look at; and files that are
+//! written beside others.
+use std::collections::BTreeSet;
 use std::ffi::{OsStr, OsString};
 use std::fs::{File, FileType, Metadata, OpenOptions};
-use std::io::{self, Read};
+use std::io::{self, Read, Write};
 use std::os::unix::ffi::OsStrExt;
-use std::os::unix::fs::{FileTypeExt, OpenOptionsExt};
+use std::os::unix::fs::{FileTypeExt, MetadataExt, OpenOptionsExt};
 use std::path::{Path, PathBuf};
+use std::sync::Mutex;
 
 use sheets::READ_CAP;
 
@@ -67,6 +70,108 @@ pub fn read(path: &OsStr) -> Result<Vec<u8>, String> {
     let file: File = OpenOptions::new().read(true).custom_flags(O_NONBLOCK).open(path).map_err(|error| reason(&error))?;
     expect_regular(file.metadata())?;
     first_bytes(file)
+}
+
+/// Why a file was not repaired: it could not be read, or what was made of it not be written.
+pub enum Failed {
+    Unread(String),
+    Unwritten(String),
+}
+
+/// The system's reason as that of what could not be written.
+fn unwritten(error: io::Error) -> Failed {
+    Failed::Unwritten(reason(&error))
+}
+
+/// Which file it is, for the system, whatever its name.
+fn which(found: &Metadata) -> (u64, u64) {
+    (found.dev(), found.ino())
+}
+
+/// The files of these names, and what stands on standard input for '-'.
+pub fn inputs<'a>(names: impl Iterator<Item = &'a OsString>) -> BTreeSet<(u64, u64)> {
+    let found = names.filter_map(|name| std::fs::metadata(if name == "-" { OsStr::new("/dev/stdin") } else { name }).ok());
+    found.map(|found| which(&found)).collect()
+}
+
+/// Can a file of this name be made of these inputs? Where there is one, it must be regular, and no input itself; and SQLite must have no changes for a GeoPackage of
+/// that name, which it would make to any file there.
+pub fn expect_writable(path: &Path, inputs: &BTreeSet<(u64, u64)>) -> Result<(), Failed> {
+    let found = std::fs::metadata(path).ok();
+    let beside = |end: &str| Path::new(&[path.as_os_str(), OsStr::new(end)].join(OsStr::new(""))).exists();
+    let why = match found {
+        Some(found) if inputs.contains(&which(&found)) => Some("it is the input itself"),
+        Some(found) if !found.is_file() => irregular(found.file_type()),
+        _ if geopackage::is_name(path.as_os_str()) && (beside("-wal") || beside("-journal")) => {
+            Some("SQLite's changes to a file of that name stand beside it")
+        }
+        _ => None,
+    };
+    why.map_or(Ok(()), |why| Err(Failed::Unwritten(why.to_string())))
+}
+
+/// The draft that there is, for where the program ends by itself.
+static DRAFT: Mutex<Option<PathBuf>> = Mutex::new(None);
+
+/// Removes the draft that there is.
+pub fn remove_draft() {
+    let name = DRAFT.lock().unwrap_or_else(|broken| broken.into_inner()).take();
+    name.map(std::fs::remove_file);
+}
+
+/// A file in the folder of another, under a name of its own, until it is kept under the other's. Else it is gone again. There is one at a time.
+pub struct Draft<'a> {
+    path: &'a Path,
+    pub name: PathBuf,
+    file: File,
+}
+
+impl Draft<'_> {
+    pub fn of(path: &Path) -> Result<Draft<'_>, Failed> {
+        let bytes = path.as_os_str().as_bytes();
+        let folder = OsStr::from_bytes(&bytes[..bytes.iter().rposition(|byte| *byte == b'/').map_or(0, |slash| slash + 1)]);
+        let mut count = 0;
+        loop {
+            let name = Path::new(folder).join(format!(".repair-{}-{count}", std::process::id()));
+            count += 1;
+            match OpenOptions::new().write(true).create_new(true).open(&name) {
+                Ok(file) => {
+                    *DRAFT.lock().unwrap_or_else(|broken| broken.into_inner()) = Some(name.clone());
+                    return Ok(Draft { path, name, file });
+                }
+                Err(error) if error.kind() == io::ErrorKind::AlreadyExists => (),
+                Err(error) => return Err(unwritten(error)),
+            }
+        }
+    }
+
+    /// Writes all of the bytes, to the disk itself.
+    pub fn write(&mut self, bytes: &[u8]) -> Result<(), Failed> {
+        self.file.write_all(bytes).and_then(|()| self.file.sync_all()).map_err(unwritten)
+    }
+
+    pub fn keep(self) -> Result<(), Failed> {
+        std::fs::rename(&self.name, self.path).map_err(unwritten)
+    }
+}
+
+impl Drop for Draft<'_> {
+    fn drop(&mut self) {
+        remove_draft();
+    }
+}
+
+/// Makes the folders that a file stands in.
+pub fn make_folders(path: &Path) -> Result<(), Failed> {
+    path.parent().map_or(Ok(()), std::fs::create_dir_all).map_err(unwritten)
+}
+
+/// Where a path leads, also one with folders that aren't there yet.
+pub fn led_to(path: &Path) -> PathBuf {
+    std::fs::canonicalize(path).unwrap_or_else(|_| match (path.parent(), path.file_name()) {
+        (Some(parent), Some(name)) => led_to(if parent == Path::new("") { Path::new(".") } else { parent }).join(name),
+        _ => path.to_path_buf(),
+    })
 }
 
 /// What is looked for in a folder.

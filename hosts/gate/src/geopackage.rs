@@ -1,17 +1,19 @@
-//! The sheets of a GeoPackage file, row by row: the blobs of its geometry columns, by SQLite, which never writes to the file. docs/DECISIONS.md, "GeoPackage
-//! files", says how one is opened, which rows it has, and what their ids are.
+//! The sheets of a GeoPackage file, row by row: the blobs of its geometry columns, by SQLite, which never writes to the file; a copy of it may have other blobs.
+//! docs/DECISIONS.md, "GeoPackage files", says how one is opened, which rows it has, and what their ids are.
 use std::ffi::{OsStr, OsString};
 use std::os::unix::ffi::OsStrExt;
 use std::os::unix::fs::MetadataExt;
 use std::path::{Path, PathBuf};
 use std::time::Duration;
 
+use rusqlite::backup::{Backup, StepResult};
 use rusqlite::config::DbConfig;
+use rusqlite::ffi::SQLITE_BUSY;
 use rusqlite::types::ValueRef;
 use rusqlite::{params, Connection, DatabaseName, Error, ErrorCode, OpenFlags, Row};
 use sheets::READ_CAP;
 
-use crate::files;
+use crate::files::{self, Failed};
 use crate::memory;
 use crate::names::shown;
 
@@ -29,10 +31,11 @@ pub struct Chosen {
     pub id: Option<i64>,
 }
 
-/// A row, or a table where there is no id.
+/// A row, or a table where there is no id; and whether it can have another blob in a copy: it can't in a view, and in a table without row numbers.
 pub struct Named {
     pub table: Vec<u8>,
     pub id: Option<Vec<u8>>,
+    pub can_change: bool,
 }
 
 /// What a row has, or why a row or a table could not be read.
@@ -104,17 +107,21 @@ impl Place {
         })
     }
 
-    /// The path as SQLite takes it with settings behind it.
     fn uri(&self, way: Way) -> String {
-        let escaped = |byte: &u8| if *byte == b'/' { "/".to_string() } else { format!("%{byte:02x}") };
-        let path: String = self.file.as_os_str().as_bytes().iter().map(escaped).collect();
         let settings = match way {
             Way::Locked => "mode=ro",
             Way::Immutable => "immutable=1",
             Way::WithChanges => "mode=ro&vfs=unix-none",
         };
-        format!("file://{path}?{settings}")
+        uri(&self.file, settings)
     }
+}
+
+/// The path as SQLite takes it with settings behind it.
+fn uri(file: &Path, settings: &str) -> String {
+    let escaped = |byte: &u8| if *byte == b'/' { "/".to_string() } else { format!("%{byte:02x}") };
+    let path: String = file.as_os_str().as_bytes().iter().map(escaped).collect();
+    format!("file://{path}?{settings}")
 }
 
 /// Opens a database and sets it up.
@@ -210,16 +217,55 @@ fn first_bytes(base: &Connection, table: &str, column: &str, row: i64) -> rusqli
     Ok(bytes)
 }
 
+/// A copy of a GeoPackage whose blobs are changed, all of them at once or none. Its pages are those of the file, with the changes that stand beside it. No trigger
+/// is run: what keeps an index of frames asks for functions that SQLite has not, and the frames stay.
+struct Copy(Connection);
+
+impl Copy {
+    fn of(base: &Connection, name: &Path) -> rusqlite::Result<Copy> {
+        let flags = OpenFlags::SQLITE_OPEN_READ_WRITE | OpenFlags::SQLITE_OPEN_URI | OpenFlags::SQLITE_OPEN_NO_MUTEX;
+        let opened = || Connection::open_with_flags(uri(&files::led_to(name), "mode=rw"), flags);
+        if !matches!(Backup::new(base, &mut opened()?)?.step(-1)?, StepResult::Done) {
+            return Err(Error::SqliteFailure(rusqlite::ffi::Error::new(SQLITE_BUSY), Some("database is locked".to_string())));
+        }
+        let copy = opened()?;
+        copy.set_db_config(DbConfig::SQLITE_DBCONFIG_ENABLE_TRIGGER, false)?;
+        copy.execute_batch("PRAGMA journal_mode = MEMORY; PRAGMA trusted_schema = OFF; BEGIN")?;
+        Ok(Copy(copy))
+    }
+
+    fn put(&self, table: &str, column: &str, (name, number): (&str, i64), blob: &[u8]) -> rusqlite::Result<()> {
+        let change = format!("UPDATE {} AS t SET {} = ?1 WHERE {name} = ?2", quoted(table), quoted(column));
+        self.0.execute(&change, params![blob, number]).map(|_| ())
+    }
+}
+
 /// A name that a statement can have in it.
 fn name_of(bytes: &[u8]) -> Result<&str, String> {
     let name = std::str::from_utf8(bytes).ok().filter(|name| !name.contains('\0'));
     name.ok_or("its name isn't text that a statement can have".to_string())
 }
 
-/// Goes over the rows of one column.
-fn each_of(base: &Connection, names: &Column, chosen: &Chosen, take: &mut dyn FnMut(Named, Found)) -> Result<(), String> {
-    let (table, column) = (name_of(&names.table)?, name_of(&names.column)?);
-    each_row_of(base, names, (table, column), chosen, take).map_err(|error| reason(&error))
+/// What is done with a row, or with a row or a table that could not be read: it may answer the blob that a copy is to have in its place.
+type Take<'a> = dyn FnMut(Named, Found) -> Option<Vec<u8>> + 'a;
+
+/// Puts a blob into a copy, in the row whose number, by its name, is this one; whether it was done.
+type Change<'a> = dyn FnMut((&str, i64), &[u8]) -> bool + 'a;
+
+/// Goes over the rows of one column, and puts what is answered into the copy.
+fn each_of(base: &Connection, names: &Column, chosen: &Chosen, copy: Option<&Copy>, take: &mut Take) -> Result<(), Failed> {
+    let table = name_of(&names.table).map_err(Failed::Unread)?;
+    let column = name_of(&names.column).map_err(Failed::Unread)?;
+    let mut failed = None;
+    let mut change = |row: (&str, i64), blob: &[u8]| match copy.map_or(Ok(()), |copy| copy.put(table, column, row, blob)) {
+        Ok(()) => true,
+        Err(error) => {
+            failed = Some(Failed::Unwritten(reason(&error)));
+            false
+        }
+    };
+    let read = each_row_of(base, names, (table, column), chosen, take, &mut change);
+    failed.map_or(read.map_err(|error| Failed::Unread(reason(&error))), Err)
 }
 
 /// The rows as SQLite gives them: of each the id, and a blob, or the number of a row with one longer than is looked at, or NULL where such a row has no number.
@@ -228,14 +274,15 @@ fn each_row_of(
     names: &Column,
     (table, column): (&str, &str),
     chosen: &Chosen,
-    take: &mut dyn FnMut(Named, Found),
+    take: &mut Take,
+    change: &mut Change,
 ) -> rusqlite::Result<()> {
     let Rows { number, id } = rows_of(base, table)?;
     let geometry = format!("t.{}", quoted(column));
     let asked = if chosen.id.is_some() { format!("WHERE {id} = ?1") } else { String::new() };
     let mut found = base.prepare(&format!(
         "SELECT CAST({id} AS TEXT), CASE WHEN typeof({geometry}) = 'blob' AND length({geometry}) > {READ_CAP} THEN {number}
-        ELSE coalesce(CAST({geometry} AS BLOB), x'') END FROM {} AS t {asked} ORDER BY {id}",
+        ELSE coalesce(CAST({geometry} AS BLOB), x'') END, {number} FROM {} AS t {asked} ORDER BY {id}",
         quoted(table)
     ))?;
     let mut rows = match chosen.id {
@@ -243,37 +290,47 @@ fn each_row_of(
         None => found.query([])?,
     };
     while let Some(row) = rows.next()? {
-        let named = Named { table: names.shown.clone(), id: Some(text(row, 0)?) };
+        let place: Option<i64> = row.get(2)?;
+        let named = Named { table: names.shown.clone(), id: Some(text(row, 0)?), can_change: place.is_some() };
         let bytes = match row.get_ref(1)? {
             ValueRef::Blob(bytes) => Ok(bytes.to_vec()),
             ValueRef::Integer(number) => first_bytes(base, table, column, number).map_err(|error| reason(&error)),
             _ => Err("string or blob too big".to_string()),
         };
-        take(named, bytes);
+        if let (Some(other), Some(place)) = (take(named, bytes), place) {
+            if !change((&number, place), &other) {
+                break;
+            }
+        }
     }
     Ok(())
 }
 
-/// Goes over the rows by table and id. An error is the whole file's: it is no GeoPackage, has no such row, or was changed meanwhile.
-pub fn each_row(path: &OsStr, chosen: &Chosen, mut take: impl FnMut(Named, Found)) -> Result<(), String> {
-    let place = Place::of(path)?;
+/// Goes over the rows by table and id. An error is the whole file's: it is no GeoPackage, has no such row, or was changed meanwhile. Where a copy is named, an empty
+/// file, it is the file with the blobs that were answered; else it is the error that it can't be made.
+pub fn each_row(path: &OsStr, chosen: &Chosen, copy: Option<&Path>, mut take: impl FnMut(Named, Found) -> Option<Vec<u8>>) -> Result<(), Failed> {
+    let unwritten = |error: Error| Failed::Unwritten(reason(&error));
+    let place = Place::of(path).map_err(Failed::Unread)?;
     let mut count = 0;
     let mut counted = |named, found| {
         count += 1;
-        take(named, found);
+        take(named, found)
     };
     {
-        let base = open(&place)?;
-        expect_geopackage(&base)?;
-        for column in columns(&base, chosen).map_err(|error| reason(&error))? {
-            if let Err(why) = each_of(&base, &column, chosen, &mut counted) {
-                counted(Named { table: column.shown, id: None }, Err(why));
+        let base = open(&place).map_err(Failed::Unread)?;
+        expect_geopackage(&base).map_err(Failed::Unread)?;
+        let copy = copy.map(|name| Copy::of(&base, name)).transpose().map_err(unwritten)?;
+        for column in columns(&base, chosen).map_err(|error| Failed::Unread(reason(&error)))? {
+            match each_of(&base, &column, chosen, copy.as_ref(), &mut counted) {
+                Err(Failed::Unread(why)) => drop(counted(Named { table: column.shown, id: None, can_change: false }, Err(why))),
+                other => other?,
             }
         }
+        copy.map_or(Ok(()), |Copy(copy)| copy.execute_batch("COMMIT")).map_err(unwritten)?;
     }
     match () {
-        () if place.is_changed() => Err("it was changed while it was read".to_string()),
-        () if count == 0 => Err("there is no row to check in it".to_string()),
+        () if place.is_changed() => Err(Failed::Unread("it was changed while it was read".to_string())),
+        () if count == 0 => Err(Failed::Unread("there is no row to check in it".to_string())),
         () => Ok(()),
     }
 }

@@ -1,5 +1,5 @@
 //! The lines that the gate prints: a verdict for each sheet, and a summary, as text or as JSON.
-use std::ffi::OsStr;
+use std::ffi::{OsStr, OsString};
 use std::os::unix::ffi::OsStrExt;
 
 use serde_json::{json, Value};
@@ -7,6 +7,7 @@ use sheets::{Mode, Refusal, Verdict};
 
 use crate::geopackage::Named;
 use crate::names::shown;
+use crate::repair::{Not, Repaired};
 
 /// A sheet's name: its file, and in a GeoPackage its row.
 pub struct Name<'a> {
@@ -32,6 +33,12 @@ pub enum Outcome {
     Repair,
     Refused(Refusal, Option<u64>),
     Unread(String),
+    /// It is written after repair, without these polygons, which have no ground left; and whether others are renumbered for it.
+    Repaired(Vec<u32>, bool),
+    /// A polygon is over a limit after repair; which, in words.
+    Over(String),
+    /// It could not be written to the file of this name; why.
+    Unwritten(OsString, String),
 }
 
 impl Outcome {
@@ -40,7 +47,21 @@ impl Outcome {
         match sheets::verdict_by(sheet, mode) {
             Verdict::Clean => Outcome::Clean,
             Verdict::Repair => Outcome::Repair,
-            Verdict::Refused(refusal) => Outcome::Refused(refusal, refusal.of_reading().then(|| sheets::position_by(sheet, mode).byte)),
+            Verdict::Refused(refusal) => Outcome::refused(sheet, mode, refusal),
+        }
+    }
+
+    fn refused(sheet: &[u8], mode: Mode, refusal: Refusal) -> Outcome {
+        Outcome::Refused(refusal, refusal.of_reading().then(|| sheets::position_by(sheet, mode).byte))
+    }
+
+    /// What became of a sheet that was to be repaired.
+    pub fn after(sheet: &[u8], mode: Mode, repaired: &Result<Repaired, Not>) -> Outcome {
+        match repaired {
+            Ok(repaired) if repaired.was_clean => Outcome::Clean,
+            Ok(repaired) => Outcome::Repaired(repaired.without.clone(), repaired.renumbered),
+            Err(Not::Refused(refusal)) => Outcome::refused(sheet, mode, *refusal),
+            Err(Not::Over(why)) => Outcome::Over(why.clone()),
         }
     }
 
@@ -50,7 +71,9 @@ impl Outcome {
             Outcome::Clean => 0,
             Outcome::Repair => 1,
             Outcome::Refused(..) => 2,
-            Outcome::Unread(_) => 3,
+            Outcome::Unread(_) | Outcome::Unwritten(..) => 3,
+            Outcome::Repaired(without, _) => usize::from(!without.is_empty()),
+            Outcome::Over(_) => 2,
         }
     }
 
@@ -69,6 +92,9 @@ impl Outcome {
                 format!("{name}: refused {} {}{place}: {}\n", refusal.code, refusal.item, refusal.sentence())
             }
             Outcome::Unread(why) => format!("{name}: could not be read: {why}\n"),
+            Outcome::Repaired(without, renumbered) => format!("{name}: {}\n", written(without, *renumbered)),
+            Outcome::Over(why) => format!("{name}: over the limits: {why}\n"),
+            Outcome::Unwritten(out, why) => format!("{name}: could not be written to {}: {why}\n", shown(out.as_bytes())),
         }
     }
 
@@ -91,8 +117,33 @@ impl Outcome {
                 members["verdict"] = json!("unreadable");
                 members["reason"] = json!(why);
             }
+            Outcome::Repaired(without, renumbered) => {
+                members["verdict"] = json!("repaired");
+                members["without"] = json!(without);
+                members["renumbered"] = json!(renumbered);
+            }
+            Outcome::Over(why) => {
+                members["verdict"] = json!("over the limits");
+                members["reason"] = json!(why);
+            }
+            Outcome::Unwritten(out, why) => {
+                members["verdict"] = json!("unwritten");
+                members["out"] = json!(shown(out.as_bytes()));
+                members["reason"] = json!(why);
+            }
         }
         members
+    }
+}
+
+/// A sheet that is written after repair, in words.
+fn written(without: &[u32], renumbered: bool) -> String {
+    let numbers = without.iter().map(u32::to_string).collect::<Vec<_>>().join(", ");
+    let (polygons, have, them) = if without.len() == 1 { ("polygon", "has", "it") } else { ("polygons", "have", "them") };
+    match (without.is_empty(), renumbered) {
+        (true, _) => "repaired".to_string(),
+        (_, false) => format!("repaired without {polygons} {numbers}, which {have} no ground left"),
+        _ => format!("repaired without {polygons} {numbers}, which {have} no ground left; those behind {them} are renumbered"),
     }
 }
 
@@ -107,15 +158,25 @@ fn grouped(number: u64) -> String {
     digits
 }
 
-/// How many files came to each status, and how many were passed over, as the last line.
-pub fn summary(counts: [usize; 4], passed: usize, json: bool) -> String {
+/// How many files came to each status, checked or repaired, and how many were passed over, as the last line.
+pub fn summary(counts: [usize; 4], passed: usize, repaired: bool, json: bool) -> String {
     let sheets: usize = counts.iter().sum();
-    let [clean, repair, refused, unread] = counts;
+    let names = match repaired {
+        false => [("clean", "clean"), ("repair", "to repair"), ("refused", "refused"), ("unreadable", "could not be read")],
+        true => [
+            ("written", "written"),
+            ("without", "written without a polygon"),
+            ("not_written", "refused or over the limits"),
+            ("unreadable", "could not be read or written"),
+        ],
+    };
     if json {
-        let object = json!({"sheets": sheets, "clean": clean, "repair": repair, "refused": refused, "unreadable": unread, "passed_over": passed});
-        format!("{object}\n")
-    } else {
-        let noun = if sheets == 1 { "sheet" } else { "sheets" };
-        format!("{sheets} {noun}: {clean} clean, {repair} to repair, {refused} refused, {unread} could not be read; {passed} passed over\n")
+        let mut object = json!({ "sheets": sheets });
+        names.iter().zip(counts).for_each(|((name, _), count)| object[name] = json!(count));
+        object["passed_over"] = json!(passed);
+        return format!("{object}\n");
     }
+    let noun = if sheets == 1 { "sheet" } else { "sheets" };
+    let told: Vec<String> = names.iter().zip(counts).map(|((_, words), count)| format!("{count} {words}")).collect();
+    format!("{sheets} {noun}: {}; {passed} passed over\n", told.join(", "))
 }

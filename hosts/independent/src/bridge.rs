@@ -9,7 +9,7 @@
 //! together from what the wrapper says; u32 length; and so many bytes, the wrapper's value turned back to bytes, none for a
 //! refusal. The wrapper alone has a verdict: its item is 0 and its value one byte, 0 for clean and 1 for repair. A wrapper is
 //! asked in known modes and ways only; its functions without a mode are called where a verdict, a position
-//! or areas have mode 0, or a point is asked for in mode 0 and way 0.
+//! or areas have mode 0, or a point or rings are asked for in mode 0 and way 0.
 //!
 //! Frames may come without waiting for answers; a bridge that has no frame left to take must have flushed its answers.
 
@@ -19,7 +19,7 @@ use std::io::Read;
 use std::process::{Child, Command, Stdio};
 
 /// The functions' names, by the numbers that they have in a frame.
-pub const NAMES: [&str; 20] = [
+pub const NAMES: [&str; 22] = [
     "numbers",
     "write",
     "owner sets",
@@ -40,6 +40,8 @@ pub const NAMES: [&str; 20] = [
     "owner sets with an index",
     "owners with an index",
     "boundary with an index",
+    "rings",
+    "rings with an index",
 ];
 
 /// What is called.
@@ -93,6 +95,8 @@ impl Function {
             Function::Entry(Entry::OwnerSetsIndexed(_, mode)) => (17, [mode, 0, 0]),
             Function::Entry(Entry::OwnersIndexed(_, mode, way)) => (18, [mode, way, 0]),
             Function::Entry(Entry::BoundaryIndexed(_, mode, way, polygon)) => (19, [mode, way, polygon]),
+            Function::Entry(Entry::Rings(mode, way, polygon)) => (20, [mode, way, polygon]),
+            Function::Entry(Entry::RingsIndexed(_, mode, way, polygon)) => (21, [mode, way, polygon]),
         }
     }
 
@@ -115,6 +119,7 @@ impl Function {
             Entry::OwnerSetsBy(mode),
             Entry::OwnersBy(mode, way),
             Entry::BoundaryBy(mode, way, polygon),
+            Entry::Rings(mode, way, polygon),
             Entry::ListingBy(mode, way),
             Entry::At(mode, way, x, y),
             Entry::Index(mode),
@@ -129,6 +134,7 @@ impl Function {
             Function::Entry(Entry::OwnerSetsIndexed(lent, mode)) => Some((lent, mode)),
             Function::Entry(Entry::OwnersIndexed(lent, mode, _)) => Some((lent, mode)),
             Function::Entry(Entry::BoundaryIndexed(lent, mode, ..)) => Some((lent, mode)),
+            Function::Entry(Entry::RingsIndexed(lent, mode, ..)) => Some((lent, mode)),
             _ => None,
         }
     }

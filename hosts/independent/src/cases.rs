@@ -21,6 +21,7 @@ mod points;
 mod positions;
 mod reading;
 mod repair;
+mod rings;
 mod rules;
 mod spikes;
 mod without_ground;
@@ -50,6 +51,7 @@ pub fn all() -> Vec<Case> {
         areas::cases,
         points::cases,
         index::cases,
+        rings::cases,
     ];
     groups.iter().for_each(|group| group(&mut cases));
     cases.0
@@ -72,11 +74,12 @@ pub fn named(name: &str) -> Vec<u8> {
 mod tests {
     use super::*;
     use crate::blob::Envelope;
-    use crate::entries::{answer, packed, whole, Entry};
+    use crate::entries::{answer, packed, whole, Entry, Input};
     use crate::made::Head;
     use crate::reading::{read, Mode};
     use crate::repair::WAYS;
-    use crate::Refusal;
+    use crate::rings::multi_line_string;
+    use crate::{Point, Refusal, Ring};
     use std::collections::BTreeSet;
 
     /// The entries that take a sheet in a mode and refuse it, asked for polygon 1 and for one that isn't there.
@@ -172,6 +175,12 @@ mod tests {
             Outcome::Index(numbers) => {
                 let bytes = numbers.iter().flat_map(|number| number.to_le_bytes()).collect();
                 answered(Entry::Index(mode), input) == (2 * 256 * numbers.len() as u64, Some(bytes))
+            }
+            Outcome::Rings(polygon, rings) => {
+                let point = |&(x, y): &(i32, i32)| Point { x: x.into(), y: y.into() };
+                let rings: Vec<Ring> = rings.iter().map(|ring| ring.iter().map(point).collect()).collect();
+                let bytes = multi_line_string(&rings);
+                answered(Entry::Rings(mode, 0, *polygon), input) == (256 * bytes.len() as u64, Some(bytes))
             }
             Outcome::Holds(number, sheet) => {
                 let numbers = whole(Entry::Numbers, sheet).unwrap().bytes;
@@ -318,6 +327,30 @@ mod tests {
                 let passed = at.map(|refusal| refusal.filter(|refusal| refusal.code != 55));
                 assert_eq!(passed, owners, "{name}");
                 assert!((x, y) == (0, 0) || at.iter().all(Option::is_some), "{name}");
+            }
+        }
+    }
+
+    /// The rings entry is refused as the boundary entry is, whatever is asked for; and has 16 bytes for each side that the boundary entry
+    /// lists, 25 for each ring, and 9.
+    #[test]
+    fn rings_are_refused_as_boundary_sides() {
+        for (name, input) in sheets() {
+            let given = Input::new(&input);
+            for (mode, way, polygon) in
+                [(0, 0, 1), (0, 1, 2), (1, 0, 1), (0, 2, 1), (0, 2, 0), (7, 0, 1), (0, 0, u32::MAX)]
+            {
+                let sides = given.whole(Entry::BoundaryBy(mode, way, polygon));
+                let rings = given.whole(Entry::Rings(mode, way, polygon));
+                assert_eq!(rings.as_ref().err(), sides.as_ref().err(), "{name}");
+                let (Ok(sides), Ok(rings)) = (sides, rings) else { continue };
+                let count = u64::from(u32::from_le_bytes(rings.bytes[5..9].try_into().unwrap()));
+                assert_eq!(
+                    (rings.item, rings.bytes.len() as u64),
+                    (9 + 16 * sides.item + 25 * count, rings.item),
+                    "{name}"
+                );
+                assert!(3 * count <= sides.item, "{name}");
             }
         }
     }

@@ -11,6 +11,7 @@ use crate::plane::{double_area, sides};
 use crate::points::{belongs, to_ask};
 use crate::reading::{read, read_in, read_or_fault, Fault, Mode};
 use crate::repair::{boundary_sides, repair, WAYS};
+use crate::rings::rings;
 use crate::table::{frame, Table};
 use crate::turning::turned;
 use crate::writing::write;
@@ -199,6 +200,77 @@ fn compare_repair(name: &str, judged: &Judged, way: u32) -> Option<Vec<u8>> {
         assert_eq!(listed, given.map(|(side, _)| side).collect::<Vec<Side>>(), "{name}");
     }
     numbers.ok()
+}
+
+/// Whether, at the end of a side, the way on to the first point comes before that to the second, anticlockwise from the way back.
+fn sooner_round((u, v): Side, one: Point, other: Point) -> bool {
+    let at = |point: Point| {
+        let turn = double_area(&[v, u, point]);
+        let ahead = (u.x - v.x) * (point.x - v.x) + (u.y - v.y) * (point.y - v.y);
+        (turn < 0 || turn == 0 && ahead < 0, turn < 0)
+    };
+    at(one) < at(other) || at(one) == at(other) && double_area(&[v, one, other]) > 0
+}
+
+/// Of all sides that leave where this one ends, the one that no other is sooner round than.
+fn next_round(listed: &[Side], side: Side) -> Side {
+    let leaving: Vec<&Side> = listed.iter().filter(|next| next.0 == side.1).collect();
+    let first = |next: &&&Side| leaving.iter().all(|other| other == *next || sooner_round(side, next.1, other.1));
+    match leaving.iter().filter(first).collect::<Vec<_>>()[..] {
+        [next] => **next,
+        _ => panic!("no one side is first round the corner"),
+    }
+}
+
+/// The rings of boundary sides: the earliest side that is in none yet begins one, which goes on until it is at that side again.
+fn joined(listed: &[Side]) -> Vec<Vec<Side>> {
+    let mut rings: Vec<Vec<Side>> = Vec::new();
+    while let Some(first) = listed.iter().find(|side| !rings.iter().flatten().any(|other| other == *side)) {
+        let mut ring = vec![*first];
+        while next_round(listed, ring[ring.len() - 1]) != *first {
+            ring.push(next_round(listed, ring[ring.len() - 1]));
+        }
+        rings.push(ring);
+    }
+    rings
+}
+
+/// The rings of boundary sides agree; they are closed, of three sides at least, and have each side once. How many there are, and whether
+/// several sides leave a corner.
+fn compare_rings(name: &str, listed: &[Side]) -> (usize, bool) {
+    let right = joined(listed);
+    let lines: Vec<Ring> = rings(listed);
+    let in_sides = |line: &Ring| line.windows(2).map(|ends| (ends[0], ends[1])).collect::<Vec<Side>>();
+    assert_eq!(lines.iter().map(in_sides).collect::<Vec<_>>(), right, "{name}");
+    assert!(lines.iter().all(|line| line.len() > 3 && line.first() == line.last()), "{name}");
+    let (mut once, mut all) = (right.concat(), listed.to_vec());
+    once.sort_unstable();
+    all.sort_unstable();
+    assert_eq!(once, all, "{name}");
+    (right.len(), all.windows(2).any(|sides| sides[0].0 == sides[1].0))
+}
+
+#[test]
+fn rings_are_the_boundary_sides_joined() {
+    let (mut several, mut touching) = (0, 0);
+    for (name, input) in inputs() {
+        let Ok(judged) = judge_sheet(Mode::PRESENT, &input) else { continue };
+        if judged.owners.len() > 300 {
+            continue;
+        }
+        for way in WAYS {
+            let Ok(numbers) = repair(&judged.table, &judged.owners, way) else { continue };
+            for number in 1..=judged.sheet.polygons.len() as u8 {
+                let (rings, touch) = compare_rings(&name, &boundary_sides(&judged.table, &numbers, number));
+                several += usize::from(rings > 1);
+                touching += usize::from(touch);
+            }
+        }
+    }
+    assert!(
+        several > 100 && touching > 100,
+        "{several} polygons with several rings, {touching} with corners that several sides leave"
+    );
 }
 
 /// Every polygon has a double area above 0. Their double areas, from their corners, add up to those of the triangles by their

@@ -4,7 +4,7 @@ use crate::ownership::{judge_sheet, member_double_area, Judged};
 use crate::reading::{read_in, Mode};
 use crate::repair::{boundary_sides, repaired};
 use crate::table::{index, Table};
-use crate::{listing, points, writing, Point, Refusal};
+use crate::{listing, points, rings, writing, Point, Refusal, Side};
 use std::cell::OnceCell;
 
 /// One of the entries called from outside.
@@ -36,6 +36,8 @@ pub enum Entry {
     OwnersBy(u32, u32),
     /// The boundary entry in the mode and the way of these numbers, asked for the polygon of the third.
     BoundaryBy(u32, u32, u32),
+    /// The boundary sides joined into closed rings, in the mode and the way of these numbers, asked for the polygon of the third.
+    Rings(u32, u32, u32),
     /// The printed listing in the mode and the way of these numbers, which answers no refusal but 40.
     ListingBy(u32, u32),
     /// The owner after repair at a point, in the mode and the way of these numbers, by x and y; no bytes are lent.
@@ -48,6 +50,8 @@ pub enum Entry {
     OwnersIndexed(Lent, u32, u32),
     /// The boundary entry with this index, in the mode and the way of these numbers, asked for the polygon of the third.
     BoundaryIndexed(Lent, u32, u32, u32),
+    /// The closed rings with this index, in the mode and the way of these numbers, asked for the polygon of the third.
+    RingsIndexed(Lent, u32, u32, u32),
 }
 
 /// Which index is lent, by the table's own; or by 12 zeros where there is none, since reading, the table or the envelope is refused.
@@ -153,6 +157,7 @@ impl<'a> Input<'a> {
             Entry::OwnerSetsBy(mode) => Ok(owner_sets(self.judged_by(mode)?)),
             Entry::OwnersBy(mode, way) => owners(self.judged_by(mode)?, way),
             Entry::BoundaryBy(mode, way, asked) => boundary(self.judged_by(mode)?, way, asked),
+            Entry::Rings(mode, way, asked) => rings_of(self.judged_by(mode)?, way, asked),
             Entry::ListingBy(mode, way) => Ok(counted(listing::of(self.judged_by(mode), way).into_bytes())),
             Entry::At(mode, way, x, y) => at(self.judged_by(mode)?, way, x, y),
             Entry::Index(mode) => self.index(mode).map(counted),
@@ -164,6 +169,9 @@ impl<'a> Input<'a> {
             }
             Entry::BoundaryIndexed(lent, mode, way, asked) => {
                 self.with_index(&self.lent(lent, mode), mode, Entry::BoundaryBy(mode, way, asked))
+            }
+            Entry::RingsIndexed(lent, mode, way, asked) => {
+                self.with_index(&self.lent(lent, mode), mode, Entry::Rings(mode, way, asked))
             }
         }
     }
@@ -271,13 +279,21 @@ fn at(judged: &Judged, way: u32, x: i32, y: i32) -> Result<Success, Refusal> {
     Ok(Success { item: owner.into(), bytes: Vec::new() })
 }
 
-/// After 20 and 21 come 41, 54 and 30.
-fn boundary(judged: &Judged, way: u32, asked: u32) -> Result<Success, Refusal> {
+/// The boundary sides of a polygon after repair: after 20 and 21 come 41, 54 and 30.
+fn sides_of(judged: &Judged, way: u32, asked: u32) -> Result<Vec<Side>, Refusal> {
     if asked == 0 || asked as usize > judged.sheet.polygons.len() {
         return Err(Refusal::new(41, 0));
     }
     let repaired = repaired(judged, way)?;
-    let sides = boundary_sides(&judged.table, &repaired, asked as u8);
+    Ok(boundary_sides(&judged.table, &repaired, asked as u8))
+}
+
+fn rings_of(judged: &Judged, way: u32, asked: u32) -> Result<Success, Refusal> {
+    Ok(counted(rings::multi_line_string(&rings::rings(&sides_of(judged, way, asked)?))))
+}
+
+fn boundary(judged: &Judged, way: u32, asked: u32) -> Result<Success, Refusal> {
+    let sides = sides_of(judged, way, asked)?;
     let numbers = sides.iter().flat_map(|(u, v)| [u.x, u.y, v.x, v.y]);
     let bytes = numbers.flat_map(|number| (number as i32).to_le_bytes()).collect();
     Ok(Success { item: sides.len() as u64, bytes })

@@ -19,6 +19,7 @@ pub mod plane;
 pub mod points;
 pub mod reading;
 pub mod repair;
+pub mod rings;
 pub mod stored;
 pub mod table;
 pub mod turning;

@@ -24,6 +24,7 @@ extern "C" {
     fn sheet_owner_sets_by(sheet: *const u8, sheet_len: usize, mode: u32, out: *mut u8, out_len: usize) -> u64;
     fn sheet_owners_by(sheet: *const u8, sheet_len: usize, mode: u32, way: u32, out: *mut u8, out_len: usize) -> u64;
     fn sheet_boundary_by(sheet: *const u8, sheet_len: usize, mode: u32, way: u32, polygon: u32, out: *mut u8, out_len: usize) -> u64;
+    fn sheet_rings(sheet: *const u8, sheet_len: usize, mode: u32, way: u32, polygon: u32, out: *mut u8, out_len: usize) -> u64;
     fn sheet_listing_by(sheet: *const u8, sheet_len: usize, mode: u32, way: u32, out: *mut u8, out_len: usize) -> u64;
     fn sheet_write_blob(numbers: *const u8, numbers_len: usize, out: *mut u8, out_len: usize) -> u64;
     fn sheet_at(sheet: *const u8, sheet_len: usize, mode: u32, way: u32, x: i32, y: i32) -> u64;
@@ -48,6 +49,17 @@ extern "C" {
         out_len: usize,
     ) -> u64;
     fn sheet_boundary_indexed(
+        sheet: *const u8,
+        sheet_len: usize,
+        index: *const u8,
+        index_len: usize,
+        mode: u32,
+        way: u32,
+        polygon: u32,
+        out: *mut u8,
+        out_len: usize,
+    ) -> u64;
+    fn sheet_rings_indexed(
         sheet: *const u8,
         sheet_len: usize,
         index: *const u8,
@@ -83,6 +95,8 @@ pub const WRITE_BLOB_ROOM: usize = 158_330;
 pub const AREAS_ROOM: usize = 512;
 /// Room that is always enough for the index of a sheet's table.
 pub const INDEX_ROOM: usize = 6_144;
+/// Room that is always enough for the closed rings of a polygon.
+pub const RINGS_ROOM: usize = 74_761;
 
 /// Free stack that a calling thread needs, in bytes.
 pub const STACK: usize = 655_360;
@@ -256,6 +270,10 @@ pub mod lent {
     pub fn boundary_by(sheet: &[u8], mode: u32, way: u32, polygon: u32, out: &mut [u8]) -> Result<u64, Refusal> {
         call(out, |p, n| unsafe { sheet_boundary_by(sheet.as_ptr(), sheet.len(), mode, way, polygon, p, n) })
     }
+    /// The boundary sides of a polygon after repair joined into closed rings, in the mode and the way of these numbers: a WKB MultiLineString; the item is its bytes.
+    pub fn rings(sheet: &[u8], mode: u32, way: u32, polygon: u32, out: &mut [u8]) -> Result<u64, Refusal> {
+        call(out, |p, n| unsafe { sheet_rings(sheet.as_ptr(), sheet.len(), mode, way, polygon, p, n) })
+    }
     /// [`listing`] in the mode and the way of these numbers.
     pub fn listing_by(sheet: &[u8], mode: u32, way: u32, out: &mut [u8]) -> Result<u64, Refusal> {
         call(out, |p, n| unsafe { sheet_listing_by(sheet.as_ptr(), sheet.len(), mode, way, p, n) })
@@ -283,6 +301,10 @@ pub mod lent {
     /// [`boundary_by`] with an index.
     pub fn boundary_indexed(sheet: &[u8], index: &[u8], mode: u32, way: u32, polygon: u32, out: &mut [u8]) -> Result<u64, Refusal> {
         call(out, |p, n| unsafe { sheet_boundary_indexed(sheet.as_ptr(), sheet.len(), index.as_ptr(), index.len(), mode, way, polygon, p, n) })
+    }
+    /// [`rings`] with an index.
+    pub fn rings_indexed(sheet: &[u8], index: &[u8], mode: u32, way: u32, polygon: u32, out: &mut [u8]) -> Result<u64, Refusal> {
+        call(out, |p, n| unsafe { sheet_rings_indexed(sheet.as_ptr(), sheet.len(), index.as_ptr(), index.len(), mode, way, polygon, p, n) })
     }
 }
 
@@ -350,6 +372,13 @@ mod typed {
         let mut out = vec![0; BOUNDARY_ROOM];
         let sides = entry(&mut out)? as usize;
         Ok(words(&out[..16 * sides]).chunks_exact(4).map(|s| ((s[0], s[1]), (s[2], s[3]))).collect())
+    }
+
+    pub fn rings(entry: impl FnOnce(&mut [u8]) -> Item) -> Result<Vec<u8>, Refusal> {
+        let mut out = vec![0; RINGS_ROOM];
+        let bytes = entry(&mut out)? as usize;
+        out.truncate(bytes);
+        Ok(out)
     }
 
     pub fn listing(entry: impl FnOnce(&mut [u8]) -> Item) -> String {
@@ -447,8 +476,20 @@ pub fn boundary_by(sheet: &[u8], mode: Mode, way: Way, polygon: u32) -> Result<V
     typed::boundary(|out| lent::boundary_by(sheet, mode as u32, way as u32, polygon, out))
 }
 
+/// The boundary sides of a polygon after repair joined into closed rings, in a mode and a way: a WKB MultiLineString. Where several sides leave a corner, the sharpest
+/// turn to the right follows, so areas that touch in a corner make one ring; a ring begins at the earliest of its sides, and rings stand in the order of these.
+pub fn rings_by(sheet: &[u8], mode: Mode, way: Way, polygon: u32) -> Result<Vec<u8>, Refusal> {
+    typed::rings(|out| lent::rings(sheet, mode as u32, way as u32, polygon, out))
+}
+
+/// [`rings_by`] in the present mode, by priority.
+pub fn rings(sheet: &[u8], polygon: u32) -> Result<Vec<u8>, Refusal> {
+    rings_by(sheet, Mode::Present, Way::Priority, polygon)
+}
+
 /// The index of a sheet's table, to be kept beside the sheet: for each triangle and side the number of the triangle with the reversed side, 0 for none, as
-/// little-endian u16 by triangle and then ab, bc, ca. It is lent to [`owner_sets_indexed`], [`owners_indexed`] and [`boundary_indexed`].
+/// little-endian u16 by triangle and then ab, bc, ca. It is lent to [`owner_sets_indexed`], [`owners_indexed`], [`boundary_indexed`] and
+/// [`rings_indexed`].
 pub fn index(sheet: &[u8]) -> Result<Vec<u8>, Refusal> {
     index_by(sheet, Mode::Present)
 }
@@ -474,6 +515,11 @@ pub fn owners_indexed(sheet: &[u8], index: &[u8], mode: Mode, way: Way) -> Resul
 /// [`boundary_by`] with an index.
 pub fn boundary_indexed(sheet: &[u8], index: &[u8], mode: Mode, way: Way, polygon: u32) -> Result<Vec<(Point, Point)>, Refusal> {
     typed::boundary(|out| lent::boundary_indexed(sheet, index, mode as u32, way as u32, polygon, out))
+}
+
+/// [`rings_by`] with an index.
+pub fn rings_indexed(sheet: &[u8], index: &[u8], mode: Mode, way: Way, polygon: u32) -> Result<Vec<u8>, Refusal> {
+    typed::rings(|out| lent::rings_indexed(sheet, index, mode as u32, way as u32, polygon, out))
 }
 
 /// [`listing`] in a mode and a way.

@@ -1,5 +1,5 @@
 //! The safe functions on the example sheets, whose listings are stored beside them.
-use sheets::{areas, at, at_by, boundary, lent, listing, numbers, owner_sets, owners, position, verdict, write, write_blob};
+use sheets::{areas, at, at_by, boundary, lent, listing, numbers, owner_sets, owners, position, rings, rings_by, verdict, write, write_blob};
 use sheets::{areas_by, boundary_by, listing_by, numbers_by, owner_sets_by, owners_by, position_by, verdict_by};
 use sheets::{Mode, Position, Refusal, Verdict, Way};
 
@@ -24,6 +24,18 @@ fn the_strip_sheet_has_gaps_and_overlaps_and_is_repaired() {
     assert_eq!(sides, [((0, 0), (2, 0)), ((2, 4), (0, 4)), ((0, 4), (0, 0)), ((2, 0), (4, 0)), ((4, 0), (4, 4)), ((4, 4), (2, 4))]);
     assert_eq!(verdict(&sheet), Verdict::Repair);
     assert_eq!(listing(&sheet).into_bytes(), example("strip.txt"));
+}
+
+#[test]
+fn boundary_sides_are_joined_into_a_closed_ring() {
+    let sheet = example("strip.wkb");
+    let line: [(i32, i32); 7] = [(0, 0), (2, 0), (4, 0), (4, 4), (2, 4), (0, 4), (0, 0)];
+    let head = |kind: u8, count: u8| [1, kind, 0, 0, 0, count, 0, 0, 0];
+    let points = line.iter().flat_map(|&(x, y)| [x, y]).flat_map(|number| f64::from(number).to_le_bytes());
+    let wanted: Vec<u8> = head(5, 1).into_iter().chain(head(2, 7)).chain(points).collect();
+    assert_eq!(rings(&sheet, 1), Ok(wanted));
+    assert_eq!(rings_by(&sheet, Mode::Older, Way::Longest, 1), rings(&sheet, 1));
+    assert_eq!(rings(&sheet, 3), Err(Refusal { code: 41, item: 0 }));
 }
 
 #[test]
@@ -219,6 +231,8 @@ fn modes_and_ways_that_are_not_known_are_refused() {
         assert_eq!(lent::owners_by(&sheet, 1, number, &mut lent[..7]), refused(54));
         assert_eq!(lent::boundary_by(&sheet, 0, number, 1, &mut lent), refused(54));
         assert_eq!(lent::boundary_by(&sheet, 0, number, 3, &mut lent), refused(41));
+        assert_eq!(lent::rings(&sheet, 0, number, 1, &mut lent), refused(54));
+        assert_eq!(lent::rings(&sheet, number, 0, 1, &mut lent), refused(57));
         assert_eq!(lent::owners_by(&example("no-polygons.wkb"), 0, number, &mut lent), refused(54));
         assert_eq!(lent, [9; 200]);
         let bytes = lent::listing_by(&sheet, 0, number, &mut lent).unwrap() as usize;

@@ -22,6 +22,7 @@ fn the_header_defines_the_same() {
         ("WRITE_BLOB_ROOM", sheets::WRITE_BLOB_ROOM),
         ("AREAS_ROOM", sheets::AREAS_ROOM),
         ("INDEX_ROOM", sheets::INDEX_ROOM),
+        ("RINGS_ROOM", sheets::RINGS_ROOM),
         ("MODE_PRESENT", sheets::Mode::Present as usize),
         ("MODE_OLDER", sheets::Mode::Older as usize),
         ("MODE_BLOB", sheets::Mode::Blob as usize),

@@ -66,6 +66,7 @@ fn every_entry_answers_null_pointers_with_length_0() {
         sheet_owner_sets_by(1) on sheet;
         sheet_owners_by(1, 0) on sheet;
         sheet_boundary_by(1, 0, 1) on sheet;
+        sheet_rings(1, 0, 1) on sheet;
         sheet_listing_by(1, 0) on sheet;
         sheet_write_blob() on of_blob;
         sheet_index(1) on sheet;
@@ -75,6 +76,7 @@ fn every_entry_answers_null_pointers_with_length_0() {
         sheet_owner_sets_indexed(1) on sheet;
         sheet_owners_indexed(1, 0) on sheet;
         sheet_boundary_indexed(1, 0, 1) on sheet;
+        sheet_rings_indexed(1, 0, 1) on sheet;
     };
     for (name, answers) in &answers {
         let wanted = match *name {

@@ -47,12 +47,19 @@ returns-3 c = λ j w.
 
 returns-4 : tie.Need-returns-4
 returns-4 c = λ j w.
+    let r = c .before .before .rings in
+    let e = c .before .before .before .before .before in
+    let a = e .before .before .before .before .before .before .args in
+    subst (λ o. Answered o (now (a .out)) (r .result) (r .last .1 .1 .1 .1 .1 .0)) (sym (ap (λ x. goesOn (a .way) x j) (e .wanted2 .given .1))) (r .ensures j w)
+
+returns-5 : tie.Need-returns-5
+returns-5 c = λ j w.
     let r = c .owner-at in
-    let k = c .before .known-told2 .given in
+    let k = c .before .known-told3 .given in
     let e = c .before .before in
     let a = e .before .before .before .before .before .before .args in
     subst (λ o. Answered o (now (a .out)) (r .result) (now (a .out)))
-    (ap₂ (λ x y. goesOn (a .way) (At x y) j) (toZ-ofZ {w = w32} (record { sfits = k .0 .1 })) (toZ-ofZ {w = w32} (record { sfits = k .1 .0 .1 })) ∙ sym (ap (λ x. goesOn (a .way) x j) (e .wanted2 .given .1)))
+    (ap₂ (λ x y. goesOn (a .way) (At x y) j) (toZ-ofZ {w = w32} (record { sfits = k .0 .1 })) (toZ-ofZ {w = w32} (record { sfits = k .1 .0 .1 })) ∙ sym (ap (λ x. goesOn (a .way) x j) (e .wanted3 .given .1)))
     (point-answered w (a .way) _ _ (now (a .out)) (r .ensures ∙ ap (λ o. answerOf o []) (point-on w (a .way) _ _)))
 
 pub go-on-spec : {M : Type 1} → statement M
@@ -66,6 +73,8 @@ go-on-spec =
     (λ c. search needs)
     (λ c κs. search needs)
     (λ c. search needs)
+    (λ c κs. search needs)
+    (λ c. search needs)
     owner-at-requires
     (λ c. search needs)
     returns
@@ -73,4 +82,6 @@ go-on-spec =
     returns-2
     (λ c. search needs)
     returns-3
-    returns-4)
+    (λ c. search needs)
+    returns-4
+    returns-5)

@@ -9,7 +9,8 @@ use denote.Ref.{now}
 use lib.ListN.{length, getD, set, length-set, length-map}
 use lib.Seq.{getD-set-same, getD-set-other, ext-getD}
 use Rattle.whole.proofs.Sums.{all-at}
-use Rattle.table_sides.specs.Codes.{turned, numberIn, turnedIn}
+use Rattle.table_sides.specs.Codes.{turned, turnedIn}
+use Rattle.table_sides.specs.Numbered.{numberIn}
 use Rattle.table_sides.specs.Chains.{Last, ChainedTo}
 use Rattle.table_sides.proofs.Chains.{last-number}
 use Rattle.table_chains.specs.Linking.{Within}

@@ -10,7 +10,8 @@ use lib.ListN.{length, getD, set, length-set, length-map}
 use lib.Seq.{getD-set-same, getD-set-other, ext-getD}
 use Rattle.whole.proofs.Sums.{all-at}
 use Rattle.whole_order.specs.Ascending.{Distinct}
-use Rattle.table_sides.specs.Codes.{turned, numberIn, turnedIn}
+use Rattle.table_sides.specs.Codes.{turned, turnedIn}
+use Rattle.table_sides.specs.Numbered.{numberIn}
 use Rattle.table_chains.specs.Linking.{Within}
 use Rattle.table_chains.proofs.by_index.Statement.{statement}
 use Rattle.table_chains.proofs.by_index.Tie as tie

@@ -7,7 +7,7 @@ use borrow.Author.Needs.{needs}
 use denote.Ref.{now}
 use lib.ListN.{length, getD}
 use Rattle.whole_order.specs.Ascending.{Distinct}
-use Rattle.table_sides.specs.Codes.{numberIn}
+use Rattle.table_sides.specs.Numbered.{numberIn}
 use Rattle.table_sides.specs.Chains.{Last, ChainedTo}
 use Rattle.table_sides.proofs.Chains.{last-number}
 use Rattle.table_chains.proofs.Linking.{linked-last}

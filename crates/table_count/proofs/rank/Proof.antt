@@ -6,7 +6,7 @@ use borrow.Author.Needs.{needs}
 use denote.Ref.{now}
 use lib.ListN.{getD}
 use Rattle.whole_order.proofs.Ascending.{place-found}
-use Rattle.table_sides.specs.Codes.{numberIn}
+use Rattle.table_sides.specs.Numbered.{numberIn}
 use Rattle.table_count.proofs.Ranked.{number-at, number-none}
 use Rattle.table_count.proofs.rank.Statement.{statement}
 use Rattle.table_count.proofs.rank.Tie as tie

@@ -15,7 +15,7 @@ use Rattle.plane.specs.Keys.{pair}
 use Rattle.whole_order.specs.Ascending.{Ascending, placeOf}
 use Rattle.whole_order.proofs.Ascending.{place-found}
 use Rattle.table.specs.Opposites.{foundAt}
-use Rattle.table_sides.specs.Codes.{numberIn}
+use Rattle.table_sides.specs.Numbered.{numberIn}
 use Rattle.table_count.specs.Counting.{Looked, Tallied}
 use Rattle.table_count.proofs.Found.{ranked, found-within}
 use Rattle.table_tally.specs.Direct.{notedAt, added, Direct, Countable}

@@ -10,7 +10,7 @@ use denote.Ref.{now}
 use lib.ListN.{length, getD}
 use Rattle.whole.proofs.Tests.{told-yes}
 use Rattle.plane.specs.Points.{Edge}
-use Rattle.table_sides.specs.Codes.{numberIn}
+use Rattle.table_sides.specs.Numbered.{numberIn}
 use Rattle.table_count.specs.Counting.{Looked, Tallied, firstPieces}
 use Rattle.table_count.proofs.Ranked.{number-within}
 use Rattle.table_count.proofs.Pieces.{first-few}

@@ -2,7 +2,7 @@
 use mathlib.Core.Path.{sym, _∙_, ap}
 use borrow.Author.Needs.{needs}
 use denote.Ref.{now}
-use Rattle.table_sides.specs.Codes.{numberIn}
+use Rattle.table_sides.specs.Numbered.{numberIn}
 use Rattle.table_tally.proofs.rank_after.Statement.{statement}
 use Rattle.table_tally.proofs.rank_after.Tie as tie
 

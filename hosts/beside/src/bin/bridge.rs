@@ -5,7 +5,7 @@ use beside::call;
 use independent::bridge::{before_call, with_point, Function};
 use sheets::{areas, at, at_by, boundary, listing, numbers, owner_sets, owners, position, verdict, write, write_blob};
 use sheets::{areas_by, boundary_by, listing_by, numbers_by, owner_sets_by, owners_by, position_by, verdict_by};
-use sheets::{boundary_indexed, index, index_by, owner_sets_indexed, owners_indexed};
+use sheets::{boundary_indexed, index, index_by, owner_sets_indexed, owners_indexed, rings, rings_by, rings_indexed};
 use sheets::{Mode, Point, Position, Refusal, Sheet, Verdict, Way};
 use std::io::{BufRead, BufReader, Read, Write};
 
@@ -47,7 +47,7 @@ fn answer(frames: &mut impl Read) -> Vec<u8> {
 fn lent(function: u8, asked: [u32; 3], point: Point, input: &[u8], room: usize) -> Vec<u8> {
     let mut lent: Vec<u8> = (0..room).map(before_call).collect();
     let answer = match function {
-        17..=19 => with_index(function, asked, input, &mut lent),
+        17..=19 | 21 => with_index(function, asked, input, &mut lent),
         _ => call(Function::entry(function.into(), asked, point).expect("an entry"), input, &mut lent),
     };
     [&packed(answer).to_le_bytes()[..], &lent].concat()
@@ -59,7 +59,8 @@ fn with_index(function: u8, [mode, way, polygon]: [u32; 3], input: &[u8], out: &
     match function {
         17 => sheets::lent::owner_sets_indexed(sheet, index, mode, out),
         18 => sheets::lent::owners_indexed(sheet, index, mode, way, out),
-        _ => sheets::lent::boundary_indexed(sheet, index, mode, way, polygon, out),
+        19 => sheets::lent::boundary_indexed(sheet, index, mode, way, polygon, out),
+        _ => sheets::lent::rings_indexed(sheet, index, mode, way, polygon, out),
     }
 }
 
@@ -104,7 +105,9 @@ fn typed(function: u8, [mode_number, way_number, polygon]: [u32; 3], point: Poin
         15 => at_by(input, mode, way, point).map(of_owner),
         16 if mode == Mode::Present => index(input).map(counted),
         16 => index_by(input, mode).map(counted),
-        17..=19 => typed_indexed(function, parted(input), mode, way, polygon),
+        17..=19 | 21 => typed_indexed(function, parted(input), mode, way, polygon),
+        20 if mode == Mode::Present && way == Way::Priority => rings(input, polygon).map(counted),
+        20 => rings_by(input, mode, way, polygon).map(counted),
         function => panic!("there is no function {function}"),
     }
 }
@@ -114,7 +117,8 @@ fn typed_indexed(function: u8, (sheet, index): (&[u8], &[u8]), mode: Mode, way: 
     match function {
         17 => owner_sets_indexed(sheet, index, mode).map(of_sets),
         18 => owners_indexed(sheet, index, mode, way).map(counted),
-        _ => boundary_indexed(sheet, index, mode, way, polygon).map(of_sides),
+        19 => boundary_indexed(sheet, index, mode, way, polygon).map(of_sides),
+        _ => rings_indexed(sheet, index, mode, way, polygon).map(counted),
     }
 }
 

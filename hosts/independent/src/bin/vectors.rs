@@ -75,6 +75,9 @@ fn difference(call: &Call, input: &[u8], index: Option<&[u8]>, pipes: &mut Optio
         (Function::Entry(Entry::BoundaryIndexed(_, mode, way, polygon)), Some(index)) => {
             input.with_index(index, mode, Entry::BoundaryBy(mode, way, polygon))
         }
+        (Function::Entry(Entry::RingsIndexed(_, mode, way, polygon)), Some(index)) => {
+            input.with_index(index, mode, Entry::Rings(mode, way, polygon))
+        }
         _ => call.function.whole(&input),
     };
     let got = fit(got, room);
@@ -116,12 +119,14 @@ fn entry(name: &str, asked: &str) -> Entry {
         "sheet_owner_sets_by" => Entry::OwnerSetsBy(mode()),
         "sheet_owners_by" => Entry::OwnersBy(mode(), way()),
         "sheet_boundary_by" => Entry::BoundaryBy(mode(), way(), polygon()),
+        "sheet_rings" => Entry::Rings(mode(), way(), polygon()),
         "sheet_listing_by" => Entry::ListingBy(mode(), way()),
         "sheet_write_blob" => Entry::WriteBlob,
         "sheet_index" => Entry::Index(mode()),
         "sheet_owner_sets_indexed" => Entry::OwnerSetsIndexed(Lent::Own, mode()),
         "sheet_owners_indexed" => Entry::OwnersIndexed(Lent::Own, mode(), way()),
         "sheet_boundary_indexed" => Entry::BoundaryIndexed(Lent::Own, mode(), way(), polygon()),
+        "sheet_rings_indexed" => Entry::RingsIndexed(Lent::Own, mode(), way(), polygon()),
         _ => panic!("unknown entry {name}"),
     }
 }

@@ -34,6 +34,8 @@ pub enum Outcome {
     Owned(Vec<(i32, i32, u64)>),
     /// Its index has these numbers, three for each triangle.
     Index(Vec<u16>),
+    /// The polygon of this number has these rings after repair by priority, with their closing points.
+    Rings(u32, Vec<Vec<(i32, i32)>>),
     /// The first in the present mode, the second in the older one.
     InModes(Box<Outcome>, Box<Outcome>),
     /// These numbers make up a sheet.

@@ -2,10 +2,10 @@
 //!
 //! A frame is a byte for the entry (0 numbers, 1 write, 2 owner sets, 3 owners, 4 boundary, 5 listing, 6 position; 7 numbers, 8
 //! owner sets, 9 owners, 10 boundary, 11 listing by a mode and a way; 12 write blob; 13
-//! areas; 14 at a point; 15 index; 16 owner sets, 17 owners, 18 boundary with an index), u32 length of the input, u32 number of lent
+//! areas; 14 at a point; 15 index; 16 owner sets, 17 owners, 18 boundary with an index; 19 rings, 20 rings with an index), u32 length of the input, u32 number of lent
 //! bytes, and the input, little-endian; before a sheet that the boundary entry takes stands the polygon's number, a u32, before one that the
-//! position entry, the areas entry and the index entry take the mode, a u32, before one that those from 7 to 11 take mode, way and polygon, three u32, before one that is
-//! asked at a point mode, way, x and y, and before one that those from 16 on take mode, way, polygon, the length of the index, a u32, and the index. A line has
+//! position entry, the areas entry and the index entry take the mode, a u32, before one that those from 7 to 11 and 19 take mode, way and polygon, three u32, before one that is
+//! asked at a point mode, way, x and y, and before one that those from 16 to 18 and 20 take mode, way, polygon, the length of the index, a u32, and the index. A line has
 //! the packed answer, a blank, and a checksum of all lent bytes after the call, each 170 before it.
 //!
 //! The calls are few, chosen for what they try; `differ` makes those of all cases, on libsheets.a.
@@ -49,11 +49,19 @@ const IN_WAYS: [&str; 3] = [
 /// Sheets that are called with every index: the strip sheet, and ones whose table or polygon is refused.
 const WITH_INDEXES: [&str; 3] = ["strip", "example 9 - without the last triangle", "example 2 - the same clockwise"];
 
+/// Sheets that the rings of both polygons are asked for: areas and holes that touch in corners, and a polygon that owns nothing.
+const WITH_RINGS: [&str; 4] = [
+    "the ring of a bow-tie",
+    "the ring of three areas in one corner",
+    "a hole that touches the outer ring",
+    "no rings of a polygon that owns nothing",
+];
+
 /// The calls: of each entry document 01's examples and the sheets of the folder examples/, the strip sheet with every room; and
 /// short cases of each code. The boundary entry is asked for polygon 1, and on the strip sheet for all others; the position entry
 /// in mode 0, and on the strip sheet in others. The entries in a mode are called in the older one with the sheets above and the
 /// shortest case of each code, and on the strip sheet in the present one, in way 1, and in modes and ways that aren't known. The entries
-/// in way 1 are called with the cases of it named above. In the modes of
+/// in way 1 are called with the cases of it named above, and the rings entry with those of rings. In the modes of
 /// blobs they are called with the blobs above and the shortest of each code, of those that go on from a judged sheet of the codes
 /// that blobs alone have. The blob writer has all its cases. The index entry and the set entry with the table's own index are called as the entries in a mode are;
 /// the strip sheet with every index, and a table and a polygon that are refused with indexes that aren't theirs.
@@ -89,21 +97,32 @@ fn calls() -> Vec<Call> {
         let every = Lent::every(5).into_iter().chain([0, 1, 26, 47].map(Lent::Changed));
         let entries = every.flat_map(|lent| [Entry::OwnerSetsIndexed(lent, 0), Entry::OwnersIndexed(lent, 0, 0)]);
         let unknown = [Entry::Index(7), Entry::OwnerSetsIndexed(Lent::Empty, 7)];
-        let others = [Entry::OwnersIndexed(Lent::Empty, 7, 0), Entry::BoundaryIndexed(Lent::Empty, 7, 0, 1)];
-        let asked =
-            [(0, 0), (2, 0), (1, 1), (1, 2)].map(|(polygon, way)| Entry::BoundaryIndexed(Lent::Own, 1, way, polygon));
-        let asked = asked
-            .into_iter()
-            .chain([Entry::BoundaryIndexed(Lent::Longer, 0, 2, 9), Entry::OwnersIndexed(Lent::Own, 0, 2)]);
+        let others = [
+            Entry::OwnersIndexed(Lent::Empty, 7, 0),
+            Entry::BoundaryIndexed(Lent::Empty, 7, 0, 1),
+            Entry::RingsIndexed(Lent::Empty, 7, 0, 1),
+        ];
+        let asked = [(0, 0), (2, 0), (1, 1), (1, 2)].into_iter().flat_map(|(polygon, way)| {
+            [Entry::BoundaryIndexed(Lent::Own, 1, way, polygon), Entry::RingsIndexed(Lent::Own, 1, way, polygon)]
+        });
+        let asked = asked.chain([
+            Entry::BoundaryIndexed(Lent::Longer, 0, 2, 9),
+            Entry::RingsIndexed(Lent::Longer, 0, 2, 9),
+            Entry::OwnersIndexed(Lent::Own, 0, 2),
+        ]);
         calls.extend(entries.chain(unknown).chain(others).chain(asked).map(|entry| Call {
             entry,
             input: case.input.clone(),
             room: 200,
         }));
         calls.extend(
-            [Entry::OwnersIndexed(Lent::Own, 0, 0), Entry::BoundaryIndexed(Lent::Own, 0, 0, 1)]
-                .into_iter()
-                .flat_map(|entry| with_rooms(entry, case.clone())),
+            [
+                Entry::OwnersIndexed(Lent::Own, 0, 0),
+                Entry::BoundaryIndexed(Lent::Own, 0, 0, 1),
+                Entry::RingsIndexed(Lent::Own, 0, 0, 1),
+            ]
+            .into_iter()
+            .flat_map(|entry| with_rooms(entry, case.clone())),
         );
     }
     for case in cases::all().into_iter().filter(|case| case.is_of_blobs() && !case.is_blob()) {
@@ -113,8 +132,16 @@ fn calls() -> Vec<Call> {
     let asked = [0, 2, 3, 65, 257, 1 << 31, u32::MAX].map(Entry::Boundary);
     let modes = [1, 7, 256, u32::MAX].map(Entry::Position);
     for case in named(&IN_WAYS) {
-        let entries = [Entry::OwnersBy(0, 1), Entry::BoundaryBy(1, 1, 1), Entry::ListingBy(0, 1)];
-        calls.extend(entries.map(|entry| Call { entry, input: case.input.clone(), room: 200 }));
+        let entries =
+            [Entry::OwnersBy(0, 1), Entry::BoundaryBy(1, 1, 1), Entry::Rings(0, 1, 1), Entry::ListingBy(0, 1)];
+        calls.extend(entries.map(|entry| Call { entry, input: case.input.clone(), room: 600 }));
+    }
+    for case in named(&WITH_RINGS) {
+        calls.extend([Entry::Rings(0, 0, 1), Entry::Rings(0, 0, 2)].map(|entry| Call {
+            entry,
+            input: case.input.clone(),
+            room: 600,
+        }));
     }
     calls.extend(at_points());
     let by = [(0, 0, 1), (0, 1, 1), (7, 0, 1), (u32::MAX, 2, 1), (0, 2, 1), (1, u32::MAX, 3)].into_iter().flat_map(by);
@@ -144,7 +171,7 @@ fn at_points() -> Vec<Call> {
 }
 
 /// The entries in this mode and this way, asked for this polygon.
-fn by((mode, way, polygon): (u32, u32, u32)) -> [Entry; 6] {
+fn by((mode, way, polygon): (u32, u32, u32)) -> [Entry; 7] {
     let repaired = Entry::BoundaryBy(mode, way, polygon);
     [
         Entry::NumbersBy(mode),
@@ -152,6 +179,7 @@ fn by((mode, way, polygon): (u32, u32, u32)) -> [Entry; 6] {
         Entry::OwnerSetsBy(mode),
         Entry::OwnersBy(mode, way),
         repaired,
+        Entry::Rings(mode, way, polygon),
         Entry::ListingBy(mode, way),
     ]
 }
@@ -166,7 +194,9 @@ fn chosen_blobs(entry: Entry) -> Vec<Case> {
     let mut shortest = shortest(entry, Case::is_blob);
     match entry {
         Entry::NumbersBy(2) | Entry::Areas(2) | Entry::OwnerSetsBy(2) | Entry::Position(2) => (),
-        Entry::OwnersBy(2, _) | Entry::BoundaryBy(2, ..) => shortest.retain(|code, _| (50..=52).contains(code)),
+        Entry::OwnersBy(2, _) | Entry::BoundaryBy(2, ..) | Entry::Rings(2, ..) => {
+            shortest.retain(|code, _| (50..=52).contains(code))
+        }
         _ => shortest.clear(),
     }
     named(&BLOBS).chain(shortest.into_values()).collect()
@@ -252,6 +282,8 @@ impl Call {
             Entry::OwnerSetsIndexed(_, mode) => (16, vec![mode, 0, 0]),
             Entry::OwnersIndexed(_, mode, way) => (17, vec![mode, way, 0]),
             Entry::BoundaryIndexed(_, mode, way, polygon) => (18, vec![mode, way, polygon]),
+            Entry::Rings(mode, way, polygon) => (19, vec![mode, way, polygon]),
+            Entry::RingsIndexed(_, mode, way, polygon) => (20, vec![mode, way, polygon]),
         };
         let mut asked: Vec<u8> = asked.iter().flat_map(|number| number.to_le_bytes()).collect();
         if let Some((lent, mode)) = Function::Entry(self.entry).lent() {
@@ -324,6 +356,7 @@ mod tests {
             &repaired,
             &[by(&reading, &blobs), at, index],
             &indexed,
+            &[repaired[1].clone(), indexed[2].clone()],
         ]
         .concat();
         let wanted: Vec<Vec<u8>> = without.iter().map(|codes| codes.to_vec()).chain(in_modes).collect();
@@ -335,10 +368,10 @@ mod tests {
 
     #[test]
     fn every_room_of_every_entry_is_stored() {
-        for entry in 0..19 {
-            let calls: Vec<_> = tried().into_iter().filter(|tried| tried.0 == entry).collect();
-            assert!(calls.contains(&(entry, 0, Some(0))), "exact room for {entry}");
-            assert!(calls.contains(&(entry, 0, Some(9))), "lent bytes past the answer for {entry}");
+        let tried = tried();
+        for entry in 0..21 {
+            assert!(tried.contains(&(entry, 0, Some(0))), "exact room for {entry}");
+            assert!(tried.contains(&(entry, 0, Some(9))), "lent bytes past the answer for {entry}");
         }
         let short = |call: &Call, less: fn(usize) -> usize| {
             whole(call.entry, &call.input).is_ok_and(|success| call.room == less(success.bytes.len()))
@@ -346,14 +379,14 @@ mod tests {
         let of = |less: fn(usize) -> usize| -> BTreeSet<u8> {
             calls().iter().filter(|call| short(call, less)).map(|call| call.frame()[0]).collect()
         };
-        let without = |entry: u8| (0..19).filter(move |&other| other != entry).collect();
-        assert_eq!((of(|length| length.wrapping_sub(1)), of(|_| 0)), (without(14), (0..19).collect()));
+        let without = |entry: u8| (0..21).filter(move |&other| other != entry).collect();
+        assert_eq!((of(|length| length.wrapping_sub(1)), of(|_| 0)), (without(14), (0..21).collect()));
     }
 
     #[test]
     fn the_stored_input_is_small() {
         let (frames, lines) = frames_and_lines();
-        assert!(frames.len() < 520_000, "{} bytes", frames.len());
+        assert!(frames.len() < 560_000, "{} bytes", frames.len());
         assert!(lines.split(|byte| *byte == b'\n').count() > 200);
     }
 }

@@ -91,7 +91,12 @@ impl Calls {
         entries.extend(match (&self.inputs, every) {
             (_, true) => [self.by_all(place, &asked), vec![Entry::WriteBlob]].concat(),
             (Inputs::Largest(_), _) => {
-                let longest = vec![Entry::OwnersBy(0, 1), Entry::BoundaryBy(0, 1, asked[0]), Entry::ListingBy(0, 1)];
+                let longest = vec![
+                    Entry::OwnersBy(0, 1),
+                    Entry::BoundaryBy(0, 1, asked[0]),
+                    Entry::Rings(0, 1, asked[0]),
+                    Entry::ListingBy(0, 1),
+                ];
                 let in_mode_0 = vec![Entry::Position(0), Entry::Areas(0), Entry::WriteBlob];
                 let indexed = Lent::every(place as u16).map(|lent| with_index(lent, 0, 1, asked[0])).concat();
                 [in_mode_0, indexed, vec![Entry::Index(0)], longest, in_mode(1), in_mode(2), in_mode(3)].concat()
@@ -156,6 +161,7 @@ impl Calls {
                 let known = Some(mode) != no_mode && Some(way) != no_way;
                 let some = if known { polygons } else { &polygons[..3] };
                 entries.extend(some.iter().map(|polygon| Entry::BoundaryBy(mode, way, *polygon)));
+                entries.extend(some.iter().map(|polygon| Entry::Rings(mode, way, *polygon)));
             }
         }
         entries
@@ -191,10 +197,11 @@ impl Calls {
     /// One of the entries that judge, in this mode.
     fn one(&self, place: u64, purpose: u64, mode: u32, polygon: u32) -> Entry {
         let way = self.chosen(place, 102, &WAYS, &NO_WAYS);
-        match mixed(place, purpose) % 4 {
+        match mixed(place, purpose) % 5 {
             0 => Entry::OwnerSetsBy(mode),
             1 => Entry::OwnersBy(mode, way),
             2 => Entry::BoundaryBy(mode, way, polygon),
+            3 => Entry::Rings(mode, way, polygon),
             _ => Entry::ListingBy(mode, way),
         }
     }
@@ -209,6 +216,7 @@ impl Calls {
         for way in WAYS.into_iter().chain(no_way) {
             entries.push(Entry::OwnersIndexed(lent, mode, way));
             entries.extend(polygons[..3].iter().map(|polygon| Entry::BoundaryIndexed(lent, mode, way, *polygon)));
+            entries.extend(polygons[..3].iter().map(|polygon| Entry::RingsIndexed(lent, mode, way, *polygon)));
         }
         entries
     }
@@ -219,7 +227,7 @@ impl Calls {
         let every = Lent::every((number >> 16) as u16);
         let lent = every.get(number as usize % 12).copied().unwrap_or(Lent::Own);
         let way = self.chosen(place, 102, &WAYS, &NO_WAYS);
-        with_index(lent, mode, way, polygon)[(number >> 8) as usize % 3]
+        with_index(lent, mode, way, polygon)[(number >> 8) as usize % 4]
     }
 
     /// What the functions take; of the writers' numbers a wrapper takes whole ones.
@@ -237,15 +245,16 @@ impl Calls {
 /// Each entry that takes a mode, in this one.
 fn in_mode(mode: u32) -> Vec<Entry> {
     let read = [Entry::Position(mode), Entry::NumbersBy(mode), Entry::Areas(mode), Entry::OwnerSetsBy(mode)];
-    let judged =
-        [Entry::OwnersBy(mode, 0), Entry::BoundaryBy(mode, 0, 1), Entry::ListingBy(mode, 0), Entry::Index(mode)];
+    let repaired = [Entry::OwnersBy(mode, 0), Entry::BoundaryBy(mode, 0, 1), Entry::Rings(mode, 0, 1)];
+    let judged = [&repaired[..], &[Entry::ListingBy(mode, 0), Entry::Index(mode)]].concat();
     [&read[..], &judged, &with_index(Lent::Own, mode, 0, 1)].concat()
 }
 
 /// Each entry that takes an index, with this one.
 fn with_index(lent: Lent, mode: u32, way: u32, polygon: u32) -> Vec<Entry> {
     let owners = Entry::OwnersIndexed(lent, mode, way);
-    vec![Entry::OwnerSetsIndexed(lent, mode), owners, Entry::BoundaryIndexed(lent, mode, way, polygon)]
+    let sides = [Entry::BoundaryIndexed(lent, mode, way, polygon), Entry::RingsIndexed(lent, mode, way, polygon)];
+    [&[Entry::OwnerSetsIndexed(lent, mode), owners][..], &sides].concat()
 }
 
 /// A number that a place and a purpose fix.

@@ -1,0 +1,2 @@
+-- The sharpest turn to the right.
+pub mod Turning

@@ -1,0 +1,2 @@
+-- A sheet made of the rings after repair.
+pub mod Clean

@@ -1,0 +1,2 @@
+-- Sides gone along one after another.
+pub mod Along

@@ -1,0 +1,2 @@
+-- The boundary side that follows, by number.
+pub mod Follower

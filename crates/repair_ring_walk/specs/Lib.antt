@@ -1,0 +1,2 @@
+-- The rings of boundary sides by number.
+pub mod Walk

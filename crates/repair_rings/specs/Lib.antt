@@ -1,0 +1,2 @@
+-- The rings of boundary sides.
+pub mod Rings

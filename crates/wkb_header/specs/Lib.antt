@@ -1,0 +1,2 @@
+-- The header of a geometry.
+pub mod Header

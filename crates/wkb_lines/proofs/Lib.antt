@@ -1,0 +1,3 @@
+-- The laws of lines in the binary form.
+pub mod Lengths
+pub mod Examples

@@ -1,0 +1,2 @@
+-- Lines in the binary form.
+pub mod Lines
