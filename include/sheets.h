@@ -6,11 +6,11 @@
    to do what its description says, for every input.
 
    How every entry works
-     - It takes the bytes of its input, some entries an index besides, and bytes lent for the answer (sheet_at alone has none): a pointer and a length each. A length of 0
+     - It takes the bytes of its input, some entries an index besides, and bytes lent for the answer (sheet_at and sheet_ring_room have none): a pointer and a length each. A length of 0
        may come with any pointer, null too. The lent bytes must not overlap the others.
      - It answers one number, item * 256 + code: SHEETS_CODE(answer), SHEETS_ITEM(answer).
      - Code 0 is success: the answer's bytes stand at the front of the lent bytes, and the lent bytes past them keep their values. The item says how
-       long the answer is (in bytes, triangles, polygons or sides, as said below), of sheet_at whose the point is.
+       long the answer is (in bytes, triangles, polygons or sides, as said below), of sheet_at whose the point is, of sheet_ring_room how long that of sheet_rings is.
      - Any other code is a refusal: no lent byte has changed.
      - It always returns, reads only the input, writes only lent bytes, and allocates nothing. It keeps no state, so any number of threads may call any
        entries at once. A thread that calls needs 640 KiB of free stack, SHEETS_STACK.
@@ -51,8 +51,8 @@ extern "C" {
 #define SHEETS_INDEX_ROOM 6144
 #define SHEETS_RINGS_ROOM 74761
 
-/* What the entries whose names end in _by or _indexed are asked by, sheet_position, sheet_areas, sheet_index, sheet_rings and sheet_at: the mode, how the
-   sheet is read, and the way, how gaps are filled. */
+/* What the entries whose names end in _by or _indexed are asked by, sheet_position, sheet_areas, sheet_index, sheet_rings, sheet_ring_room and sheet_at: the mode,
+   how the sheet is read, and the way, how gaps are filled. */
 #define SHEETS_MODE_PRESENT 0
 #define SHEETS_MODE_OLDER 1
 #define SHEETS_MODE_BLOB 2
@@ -173,6 +173,12 @@ uint64_t sheet_boundary_indexed(const uint8_t *sheet, size_t sheet_len, const ui
                                 uint8_t *out, size_t out_len);
 uint64_t sheet_rings_indexed(const uint8_t *sheet, size_t sheet_len, const uint8_t *index, size_t index_len, uint32_t mode, uint32_t way, uint32_t polygon,
                              uint8_t *out, size_t out_len);
+
+/* How many bytes sheet_rings writes for the same sheet, mode, way and polygon, as the item: 9, 16 for each boundary side and 25 for each ring. Lent so many bytes or more
+   it is not refused 40, and lent fewer it is. Since a ring has three sides or more, the item is at most 9 + 16 * S + 25 * (S / 3) for the S sides that
+   sheet_boundary_by counts, S / 3 rounded down, so a buffer of this length is always enough, too; SHEETS_RINGS_ROOM is this for 3,072 sides, the most there are.
+   No bytes are lent. Refusals: 57, 1 to 8, 10, 11, 12, 52, 20/21, 41, 54, 30 (never). */
+uint64_t sheet_ring_room(const uint8_t *sheet, size_t sheet_len, uint32_t mode, uint32_t way, uint32_t polygon);
 
 /* What is at the point (x, y), in millimetres, any two numbers: the number of the polygon that owns it after repair in the way, as the item. A point belongs to a
    triangle if, for each side, it is strictly to the left, or lies on the line of a side that runs downward, or on that of a side that runs level to the right. Every

@@ -304,6 +304,18 @@ inline Answer<Bytes> rings(const std::uint8_t *sheet, std::size_t size, std::uin
     return rings_by(sheet, size, Mode::Present, Way::Priority, polygon);
 }
 
+// How many bytes the rings of a polygon have, for who lends them to sheet_rings, in a mode and a way, and in the present one by priority. It takes as long as finding
+// the rings does.
+inline Answer<std::size_t> ring_room_by(const std::uint8_t *sheet, std::size_t size, Mode mode, Way way, std::uint32_t polygon) {
+    const Answer<std::uint64_t> answer =
+        inside::unpacked(sheet_ring_room(inside::given(sheet, size), size, inside::number(mode), inside::number(way), polygon));
+    return {answer.refusal, static_cast<std::size_t>(answer.value)};
+}
+
+inline Answer<std::size_t> ring_room(const std::uint8_t *sheet, std::size_t size, std::uint32_t polygon) {
+    return ring_room_by(sheet, size, Mode::Present, Way::Priority, polygon);
+}
+
 inline std::string listing_by(const std::uint8_t *sheet, std::size_t size, Mode mode, Way way) {
     return inside::listing([&](std::uint8_t *lent, std::size_t room) {
         return sheet_listing_by(inside::given(sheet, size), size, inside::number(mode), inside::number(way), lent, room);

@@ -1,11 +1,11 @@
 // Calls the entries, or the functions of sheets.hpp, as the frames of standard input say, for a program that has the library on the other side of a pipe.
 // A frame: u8 function (0 numbers, 1 write, 2 owner sets, 3 owners, 4 boundary, 5 listing, 6 verdict, 7 position; 8 numbers, 9 owner sets, 10 owners, 11 boundary,
-// 12 listing by what is asked; 13 write blob, 14 areas, 15 at a point, whose x and y, i32 LE, stand before the input and count with it; 16 index; 17 owner sets, 18 owners, 19 boundary with an index; 20 rings, 21 rings with an index), u32 LE mode, u32 LE way, u32 LE polygon, u32 LE input length, u32 LE room, input. The answer: u64 LE packed answer,
+// 12 listing by what is asked; 13 write blob, 14 areas, 15 at a point, whose x and y, i32 LE, stand before the input and count with it; 16 index; 17 owner sets, 18 owners, 19 boundary with an index; 20 rings, 21 rings with an index; 22 ring room), u32 LE mode, u32 LE way, u32 LE polygon, u32 LE input length, u32 LE room, input. The answer: u64 LE packed answer,
 // then the lent bytes after the entry's call; lent byte i is (i * 131 + 17) % 256 before it. No bytes, of the input or lent, come with a null pointer. Bytes before
 // and behind the lent ones are watched: where a call changes one, or one of its input, the program ends with status 2. Where an index is lent, the input is a u32 LE
 // length, so many bytes of the sheet, and then the index.
 // With a room of 2^32 - 1 a function of sheets.hpp is called. The answer: u64 LE packed answer, u32 LE length, its value in so many bytes, none for a refusal; a
-// verdict is one byte, 0 clean or 1 repair, and in mode 0 a verdict, a position and areas are those without a mode, in mode 0 and way 0 a point's owner and rings. With --stack N the calls are made on a thread with N KiB
+// verdict is one byte, 0 clean or 1 repair, and in mode 0 a verdict, a position and areas are those without a mode, in mode 0 and way 0 a point's owner, rings and their room. With --stack N the calls are made on a thread with N KiB
 // of stack.
 #include <sheets.hpp>
 
@@ -88,6 +88,7 @@ std::uint64_t call(const Asked &asked, const std::uint8_t *input, std::size_t si
         case 15: return sheet_at(input, size, asked.mode, asked.way, asked.x, asked.y);
         case 16: return sheet_index(input, size, asked.mode, lent, room);
         case 20: return sheet_rings(input, size, asked.mode, asked.way, asked.polygon, lent, room);
+        case 22: return sheet_ring_room(input, size, asked.mode, asked.way, asked.polygon);
         case 17:
         case 18:
         case 19:
@@ -183,6 +184,9 @@ Value position(const sheets::Position &position) {
 // A point's owner is the item, and no value has bytes.
 Value owner(const sheets::Answer<std::uint32_t> &owner) { return {owner.refusal, owner.value}; }
 
+// So is the room of rings.
+Value room(const sheets::Answer<std::size_t> &room) { return {room.refusal, room.value}; }
+
 // An answer whose item is the length of its value, or of the value's bytes.
 template <class T>
 Value counted(const sheets::Answer<T> &answer, bool by_bytes) {
@@ -242,6 +246,9 @@ Value wrapped(const Asked &asked, const std::uint8_t *input, std::size_t size) {
             return counted(
                 present && way == sheets::Way::Priority ? sheets::rings(input, size, asked.polygon) : sheets::rings_by(input, size, mode, way, asked.polygon),
                 true);
+        case 22:
+            return room(present && way == sheets::Way::Priority ? sheets::ring_room(input, size, asked.polygon)
+                                                                : sheets::ring_room_by(input, size, mode, way, asked.polygon));
         case 17:
         case 18:
         case 19:

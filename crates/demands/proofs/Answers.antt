@@ -2,7 +2,7 @@
 -- which item; and exactly when it comes to a refusal, with which code and item. That the lent bytes suffice, or else 40, is in Room. Assumes nothing.
 use mathlib.Core.Path.{_≡_, refl, sym, _∙_, ap, subst}
 use mathlib.Core.Logic.{_↔_, Iff·trans, _⊎_, inl, inr, ⊎-elim}
-use mathlib.Core.List.{List, _++_, map, flatMap}
+use mathlib.Core.List.{List, [], _++_, map, flatMap}
 use mathlib.Core.Option.{Option, none, some, Option·none-ne-some}
 use Prim.Native.Nat.{ℕ, _+_, _^_, _<_}
 use native.Mathlib.Omega.{arith}
@@ -36,7 +36,7 @@ use Rattle.listing.specs.Listing.{listingOf, listing as listingBy}
 use Rattle.outcomes.specs.declared.Wanted.the-variants.{OwnerSets, Owners}
 use Rattle.outcomes.specs.Entries.{u64, telling, formOf, firstOf, formOutcome, readTo, i64, areasOutcome, onSheet, ownedSides, goesOn}
 use Rattle.demands.specs.Answers.{OtherEnvelope, HasOwners, HasSets, Refused, NoOwner, Repaired, KnownWay, OnSheet, PolygonRefused}
-use Rattle.demands.specs.Entries.{numbers, areas, position, write, writeBlob, ownerSets, owners, boundary, rings, listing, outcomeOf}
+use Rattle.demands.specs.Entries.{numbers, areas, position, write, writeBlob, ownerSets, owners, boundary, rings, ringRoom, listing, outcomeOf}
 use Rattle.demands.proofs.Envelopes.{framed-no, framed-yes}
 use Rattle.demands.proofs.Sets.{with-owners, has-owners, has-sets, owners-each, is-refused, answers-on, refuses-on}
 use Rattle.demands.proofs.After.{same-answer, after-answers, after-refuses, asked-passes, asked-refused}
@@ -319,6 +319,18 @@ module _ (mode : ℕ) (s : List ℕ) (all : All (λ b. b < 256) s) where
   -- "Refusals as for the boundary entry."
   pub rings-refuses : (way k code item : ℕ) → (outcomeOf (rings mode way k) s ≡ refused code item) ↔ PolygonRefused mode s way k code item
   rings-refuses way k code item = polygon-refuses (λ sides. length (lineBytes (lines sides))) (λ sides. lineBytes (lines sides)) mode s all way k code item
+
+  -- ---- sheet_ring_room
+  -- "The exact number .. is wanted before writing, tied to the bytes written": it answers exactly if the boundary entry does, with the number of the bytes that the rings have as
+  -- the item, and no bytes,
+  pub ring-room-answers : (way k item : ℕ) (l : List ℕ)
+      → (outcomeOf (ringRoom mode way k) s ≡ bytes item l) ↔ ((n : Sheet) × (sets : List (List ℕ)) × HasOwners mode s n sets × OnSheet n k × KnownWay way
+      × (o : List ℕ) × Repaired way n sets o × (l ≡ []) × (item ≡ length (lineBytes (lines (ownedSides n k o)))))
+  ring-room-answers way k item l = polygon-answers (λ sides. length (lineBytes (lines sides))) (λ sides. []) mode s all way k item l
+
+  -- and is refused as it is.
+  pub ring-room-refuses : (way k code item : ℕ) → (outcomeOf (ringRoom mode way k) s ≡ refused code item) ↔ PolygonRefused mode s way k code item
+  ring-room-refuses way k code item = polygon-refuses (λ sides. length (lineBytes (lines sides))) (λ sides. []) mode s all way k code item
 
   -- ---- sheet_listing
   -- It answers for every sequence of bytes, and the item is the number of bytes: the listing of the sheet with its owners; "an earlier refusal prints

@@ -22,7 +22,7 @@ use Rattle.sheet_modes.specs.Modes.{readBy}
 use Rattle.judged.specs.Judged.{checkFramed, judgedSheet}
 use Rattle.judged.proofs.Stages.{framed-value, framed-refused, sheet-refused, whole-around, judged-refused}
 use Rattle.outcomes.specs.declared.Wanted.{Wanted}
-use Rattle.outcomes.specs.declared.Wanted.the-variants.{OwnerSets, Owners, Boundary, Rings, At}
+use Rattle.outcomes.specs.declared.Wanted.the-variants.{OwnerSets, Owners, Boundary, Rings, RingRoom, At}
 use Rattle.outcomes.specs.Entries.{textOutcome, indexOutcome, goesOn}
 use Rattle.outcomes.proofs.Index.{with-index}
 use Rattle.demands.specs.Triangles.{Passes}
@@ -35,7 +35,7 @@ use Rattle.demands.proofs.Envelopes.{framed-yes}
 use Rattle.demands.proofs.Order.{is-first}
 use Rattle.demands.proofs.Sets.{is-refused}
 use Rattle.demands.proofs.After.{same-answer}
-use Rattle.demands.proofs.Answers.{owner-sets-refuses, owners-refuses, boundary-refuses, rings-refuses}
+use Rattle.demands.proofs.Answers.{owner-sets-refuses, owners-refuses, boundary-refuses, rings-refuses, ring-room-refuses}
 use Rattle.demands.proofs.Neighbours.{six-each}
 
 module _ (mode : ℕ) (s : List ℕ) where
@@ -135,6 +135,7 @@ module _ (mode : ℕ) (s : List ℕ) where
     plain Owners = refl
     plain (Boundary polygon) = refl
     plain (Rings polygon) = refl
+    plain (RingRoom polygon) = refl
     plain (At x y) = refl
 
     module _ (wanted : Wanted) where
@@ -201,6 +202,7 @@ module _ (mode : ℕ) (s : List ℕ) (all : All (λ b. b < 256) s) where
   never-53 way Owners item e = ⊎-elim (λ r. not-53 r refl) (⊎-elim (λ h. omega (arith, h .0)) (λ h. omega (arith, h .0))) (owners-refuses mode s all way 53 item .0 e)
   never-53 way (Boundary k) item e = never-asked (boundary-refuses mode s all way k 53 item .0 e)
   never-53 way (Rings k) item e = never-asked (rings-refuses mode s all way k 53 item .0 e)
+  never-53 way (RingRoom k) item e = never-asked (ring-room-refuses mode s all way k 53 item .0 e)
   never-53 way (At x y) item e = ⊎-elim (λ r. not-53 r refl) (⊎-elim (λ h. omega (arith, h .0)) (⊎-elim (λ h. omega (arith, h .0)) (λ h. omega (arith, h .0)))) (at-refuses mode s all way x y 53 item .0 e)
 
   -- "53 for an index that differs from the table's own in length or content": exactly then, and only where there is one.

@@ -14,6 +14,7 @@ pub mod Room
 pub mod Carried
 pub mod Repair
 pub mod Rings
+pub mod RingRoom
 pub mod Books
 pub mod Examples
 mod Stages

@@ -18,14 +18,14 @@ use Rattle.sheet.proofs.Refusals.{Lawful}
 use Rattle.sheet_form.specs.Numbers.{members}
 use Rattle.sheet_modes.specs.Modes.{readBy}
 use Rattle.outcomes.specs.declared.Wanted.{Wanted}
-use Rattle.outcomes.specs.declared.Wanted.the-variants.{OwnerSets, Owners, Boundary, Rings, At}
+use Rattle.outcomes.specs.declared.Wanted.the-variants.{OwnerSets, Owners, Boundary, Rings, RingRoom, At}
 use Rattle.demands.specs.Refusals.{Row, alone, rows, inRow, Listed}
-use Rattle.demands.specs.Entries.{Entry, numbers, areas, position, write, writeBlob, ownerSets, owners, boundary, rings, listing, ownerAt, index, indexed, outcomeOf}
+use Rattle.demands.specs.Entries.{Entry, numbers, areas, position, write, writeBlob, ownerSets, owners, boundary, rings, ringRoom, listing, ownerAt, index, indexed, outcomeOf}
 use Rattle.demands.specs.Answers.{Refused, PolygonRefused, unread, breaks-A, breaks-B, breaks-C, unframed, not-carried, no-ground}
 use Rattle.demands.specs.Index.{without}
 use Rattle.demands.proofs.Index.{index-refuses, same-or-53}
 use Rattle.demands.proofs.Stages.{read-lawful, no-higher, read-limits}
-use Rattle.demands.proofs.Answers.{numbers-refuses, areas-refuses, position-refuses-nothing, write-refuses, write-blob-refuses, owner-sets-refuses, owners-refuses, boundary-refuses, rings-refuses, listing-refuses-nothing}
+use Rattle.demands.proofs.Answers.{numbers-refuses, areas-refuses, position-refuses-nothing, write-refuses, write-blob-refuses, owner-sets-refuses, owners-refuses, boundary-refuses, rings-refuses, ring-room-refuses, listing-refuses-nothing}
 use Rattle.demands.proofs.Points.{at-refuses}
 
 -- ---- the table
@@ -132,6 +132,7 @@ module _ (s : List ℕ) (all : All (λ b. b < 256) s) where
       ⊎-elim (refused-listed mode s all) (⊎-elim (λ h. alone-listed 21 (omega arith) refl (h .0) (h .1)) (λ h. alone-listed 13 (omega arith) refl (h .0) (h .1))) (owners-refuses mode s all way code item .0 q)
   judged-listed mode way (Boundary k) code item q = asked-listed (boundary-refuses mode s all way k code item .0 q)
   judged-listed mode way (Rings k) code item q = asked-listed (rings-refuses mode s all way k code item .0 q)
+  judged-listed mode way (RingRoom k) code item q = asked-listed (ring-room-refuses mode s all way k code item .0 q)
   judged-listed mode way (At x y) code item q =
       ⊎-elim (refused-listed mode s all)
       (⊎-elim (λ h. alone-listed 21 (omega arith) refl (h .0) (h .1)) (⊎-elim (λ h. alone-listed 13 (omega arith) refl (h .0) (h .1)) (λ h. alone-listed 22 (omega arith) refl (h .0) (h .1))))
@@ -147,6 +148,7 @@ module _ (s : List ℕ) (all : All (λ b. b < 256) s) where
   outcome-listed (owners mode way) code item q = judged-listed mode way Owners code item q
   outcome-listed (boundary mode way k) code item q = judged-listed mode way (Boundary k) code item q
   outcome-listed (rings mode way k) code item q = judged-listed mode way (Rings k) code item q
+  outcome-listed (ringRoom mode way k) code item q = judged-listed mode way (RingRoom k) code item q
   outcome-listed (listing mode way) code item q = absurd (listing-refuses-nothing mode s all way code item q)
   outcome-listed (ownerAt mode way x y) code item q = judged-listed mode way (At x y) code item q
   outcome-listed (index mode) code item q = refused-listed mode s all (index-refuses mode s code item .0 q .0)

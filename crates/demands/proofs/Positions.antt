@@ -38,16 +38,16 @@ use Rattle.sheet_modes.specs.Modes.{Form, plain, blob, Mode, modeOf, headed, ar
 use Rattle.sheet_modes.proofs.Modes.{all-behind, by-refused, in-mode-refused, mode-unknown}
 use Rattle.sheet_modes.proofs.Outcome.{position-behind, position-of-header}
 use Rattle.outcomes.specs.declared.Wanted.{Wanted}
-use Rattle.outcomes.specs.declared.Wanted.the-variants.{OwnerSets, Owners, Boundary, Rings, At}
+use Rattle.outcomes.specs.declared.Wanted.the-variants.{OwnerSets, Owners, Boundary, Rings, RingRoom, At}
 use Rattle.outcomes.specs.Entries.{firstOf, formOf, withRoom, telling, sheetPosition}
 use Rattle.outcomes.proofs.Position.{position-refused, nowhere}
 use Rattle.demands.specs.Answers.{OtherEnvelope, Refused, PolygonRefused, unread, breaks-A, breaks-B, breaks-C, unframed, not-carried, no-ground}
 use Rattle.demands.specs.Positions.{NextAfter, Enough, OfReading, ReadsSheet}
-use Rattle.demands.specs.Entries.{Entry, numbers, areas, position, write, writeBlob, ownerSets, owners, boundary, rings, listing, ownerAt, index, indexed, outcomeOf}
+use Rattle.demands.specs.Entries.{Entry, numbers, areas, position, write, writeBlob, ownerSets, owners, boundary, rings, ringRoom, listing, ownerAt, index, indexed, outcomeOf}
 use Rattle.demands.specs.Index.{without}
 use Rattle.demands.proofs.Index.{index-refuses, before-index, same-or-53}
 use Rattle.demands.proofs.Stages.{not-between, not-above, read-opened}
-use Rattle.demands.proofs.Answers.{numbers-answers, numbers-refuses, areas-refuses, owner-sets-refuses, owners-refuses, boundary-refuses, rings-refuses}
+use Rattle.demands.proofs.Answers.{numbers-answers, numbers-refuses, areas-refuses, owner-sets-refuses, owners-refuses, boundary-refuses, rings-refuses, ring-room-refuses}
 use Rattle.demands.proofs.Points.{at-refuses}
 
 -- ---- a step
@@ -191,6 +191,7 @@ module _ (mode : ℕ) (s : List ℕ) (all : All (λ b. b < 256) s) (code item : 
   )
   same-judged way (Boundary k) = same-asked way k (boundary-refuses mode s all way k code item)
   same-judged way (Rings k) = same-asked way k (rings-refuses mode s all way k code item)
+  same-judged way (RingRoom k) = same-asked way k (ring-room-refuses mode s all way k code item)
   same-judged way (At x y) = (
     λ q. by-reading (⊎-elim (λ f. f)
         (⊎-elim (λ h. high-other 54 (omega arith) (omega arith) (h .0)) (⊎-elim (λ h. low-other 30 (omega arith) (omega arith) (h .0)) (λ h. high-other 55 (omega arith) (omega arith) (h .0)))) (at-refuses mode s all way x y code item .0 q)) of,
@@ -213,6 +214,7 @@ module _ (mode : ℕ) (s : List ℕ) (all : All (λ b. b < 256) s) (code item : 
   same-in-all (owners m way) r = subst (λ k. (outcomeOf (owners k way) s ≡ refused code item) ↔ (readBy members mode s ≡ refused code item)) (sym r) (same-judged way Owners)
   same-in-all (boundary m way k) r = subst (λ z. (outcomeOf (boundary z way k) s ≡ refused code item) ↔ (readBy members mode s ≡ refused code item)) (sym r) (same-judged way (Boundary k))
   same-in-all (rings m way k) r = subst (λ z. (outcomeOf (rings z way k) s ≡ refused code item) ↔ (readBy members mode s ≡ refused code item)) (sym r) (same-judged way (Rings k))
+  same-in-all (ringRoom m way k) r = subst (λ z. (outcomeOf (ringRoom z way k) s ≡ refused code item) ↔ (readBy members mode s ≡ refused code item)) (sym r) (same-judged way (RingRoom k))
   same-in-all (listing m way) r = absurd r
   same-in-all (ownerAt m way x y) r = subst (λ k. (outcomeOf (ownerAt k way x y) s ≡ refused code item) ↔ (readBy members mode s ≡ refused code item)) (sym r) (same-judged way (At x y))
   same-in-all (index m) r = subst (λ k. (outcomeOf (index k) s ≡ refused code item) ↔ (readBy members mode s ≡ refused code item)) (sym r) (

@@ -15,7 +15,7 @@ use Rattle.plane.proofs.Points.{sameEdge-eq, sameEdge-refl}
 use Rattle.plane.proofs.Chains.{Chain}
 use Rattle.plane_rings.specs.Closed.{origin, Closed}
 use Rattle.plane_turning.specs.Turning.{sharper, following}
-use Rattle.plane_turning.proofs.Following.{Follows, refuted}
+use Rattle.plane_turning.proofs.Following.{refuted}
 use Rattle.table.specs.Sets.{SetOf}
 use Rattle.repair_sides.specs.Sides.{boundarySides, ownedBy, trianglesOwned}
 use Rattle.repair_rings.specs.Rings.{rings, ringsOver, joined, pointsOf, lines}
@@ -34,8 +34,9 @@ use Rattle.judged.specs.Judged.{Judged, judgeIndexed, judgedSheet, repairOf}
 use Rattle.judged.specs.Held.{judgeSheet}
 use Rattle.judged.proofs.Stages.{judged-value, sheet-value}
 use Rattle.judged.proofs.Repaired
-use Rattle.sheet_ring_bytes.specs.Lines.{lineBytes, roomOf}
-use Rattle.sheet_ring_bytes.proofs.Sized.{lines-room}
+use Rattle.wkb_lines.specs.Room.{roomOf, mostRoom}
+use Rattle.sheet_ring_bytes.specs.Lines.{lineBytes}
+use Rattle.sheet_ring_bytes.proofs.Sized.{lines-room, lines-most}
 use Rattle.demands.specs.Triangles.{Passes}
 use Rattle.demands.specs.Rings.{Sharpest, ClosedWay}
 use Rattle.demands.proofs.Stages.{read-limits}
@@ -89,9 +90,13 @@ module _ (table : List Triangle) (passes : Passes table) (owners : List ℕ) (ea
   pub exact-room : length (lineBytes (lines sides)) ≡ roomOf (length sides) (length (rings sides))
   exact-room = lines-room table (passes .0) (passes .1) (passes .2) (ownedBy p owners) marks
 
-  -- and there are at most a third as many rings as sides.
+  -- there are at most a third as many rings as sides,
   pub a-third : 3 * length (rings sides) ≤ length sides
   a-third = Laws.a-third table (passes .0) (passes .1) (passes .2) (ownedBy p owners) marks
+
+  -- and so they are "never .. more than 9 + 16·S + 25·(S / 3, rounded down) bytes" (`mostRoom`).
+  pub most-room : length (lineBytes (lines sides)) ≤ mostRoom (length sides)
+  most-room = lines-most table (passes .0) (passes .1) (passes .2) (ownedBy p owners) marks
 
 -- ---- repair yields a clean sheet
 -- Bytes come to a judged sheet, which is repaired in a way.

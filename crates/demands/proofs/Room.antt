@@ -39,11 +39,11 @@ use Rattle.sheet_written.proofs.Largest.{largest, largest-fits, largest-numbers
 use Rattle.sheet_written.proofs.Sized.{written-small}
 use Rattle.sheet_written.proofs.Trip.{written-bytes, round-trip, form-small}
 use Rattle.outcomes.specs.declared.Wanted.{Wanted}
-use Rattle.outcomes.specs.declared.Wanted.the-variants.{OwnerSets, Owners, Boundary, Rings, At}
+use Rattle.outcomes.specs.declared.Wanted.the-variants.{OwnerSets, Owners, Boundary, Rings, RingRoom, At}
 use Rattle.outcomes.specs.Entries.{firstOf, formOf, i64, ownedSides}
 use Rattle.outcomes.proofs.Sized.{line-most, listing-most, sides-most}
 use Rattle.demands.specs.Answers.{Refused, PolygonRefused, unread, breaks-A, breaks-B, breaks-C, unframed, not-carried, no-ground}
-use Rattle.demands.specs.Entries.{Entry, numbers, areas, position, write, writeBlob, ownerSets, owners, boundary, rings, listing, ownerAt, index, indexed, outcomeOf, roomOf}
+use Rattle.demands.specs.Entries.{Entry, numbers, areas, position, write, writeBlob, ownerSets, owners, boundary, rings, ringRoom, listing, ownerAt, index, indexed, outcomeOf, roomOf}
 use Rattle.demands.specs.Index.{without}
 use Rattle.demands.proofs.Neighbours.{six-each}
 use Rattle.demands.proofs.Index.{index-answers, index-refuses, same-or-53}
@@ -54,7 +54,7 @@ use Rattle.demands.proofs.After.{same-answer}
 use Rattle.demands.proofs.Blobs.{header-back, sheet-back, never-52}
 use Rattle.demands.proofs.Listed.{code-fits, outcome-listed}
 use Rattle.demands.proofs.Rings.{exact-room, a-third}
-use Rattle.demands.proofs.Answers.{numbers-answers, numbers-refuses, areas-answers, areas-refuses, position-answers, position-refuses-nothing, write-answers, write-refuses, write-blob-answers, write-blob-refuses, owner-sets-answers, owner-sets-refuses, owners-answers, owners-refuses, boundary-answers, boundary-refuses, rings-answers, rings-refuses, listing-answers, listing-refuses-nothing}
+use Rattle.demands.proofs.Answers.{numbers-answers, numbers-refuses, areas-answers, areas-refuses, position-answers, position-refuses-nothing, write-answers, write-refuses, write-blob-answers, write-blob-refuses, owner-sets-answers, owner-sets-refuses, owners-answers, owners-refuses, boundary-answers, boundary-refuses, rings-answers, rings-refuses, ring-room-answers, ring-room-refuses, listing-answers, listing-refuses-nothing}
 use Rattle.demands.proofs.Points.{at-answers, at-refuses}
 
 -- The number in front of a blob's numbers has 4 bytes, and in front of a sheet's there is none.
@@ -102,6 +102,7 @@ module _ (s : List ℕ) (all : All (λ b. b < 256) s) where
   judged-not-forty mode way Owners code item q z = ⊎-elim (λ r. refused-other mode s all r z) (⊎-elim (λ h. omega (arith, h .0)) (λ h. omega (arith, h .0))) (owners-refuses mode s all way code item .0 q)
   judged-not-forty mode way (Boundary k) code item q z = asked-not-forty (boundary-refuses mode s all way k code item .0 q) z
   judged-not-forty mode way (Rings k) code item q z = asked-not-forty (rings-refuses mode s all way k code item .0 q) z
+  judged-not-forty mode way (RingRoom k) code item q z = asked-not-forty (ring-room-refuses mode s all way k code item .0 q) z
   judged-not-forty mode way (At x y) code item q z =
       ⊎-elim (λ r. refused-other mode s all r z) (⊎-elim (λ h. omega (arith, h .0)) (⊎-elim (λ h. omega (arith, h .0)) (λ h. omega (arith, h .0)))) (at-refuses mode s all way x y code item .0 q)
 
@@ -115,6 +116,7 @@ module _ (s : List ℕ) (all : All (λ b. b < 256) s) where
   not-forty (owners mode way) code item q z = judged-not-forty mode way Owners code item q z
   not-forty (boundary mode way k) code item q z = judged-not-forty mode way (Boundary k) code item q z
   not-forty (rings mode way k) code item q z = judged-not-forty mode way (Rings k) code item q z
+  not-forty (ringRoom mode way k) code item q z = judged-not-forty mode way (RingRoom k) code item q z
   not-forty (listing mode way) code item q z = listing-refuses-nothing mode s all way code item q
   not-forty (ownerAt mode way x y) code item q z = judged-not-forty mode way (At x y) code item q z
   not-forty (index mode) code item q z = refused-other mode s all (index-refuses mode s code item .0 q .0) z
@@ -138,6 +140,7 @@ module _ (s : List ℕ) (all : All (λ b. b < 256) s) where
       let (n, sets, h, on, known, o, p, e, i) = rings-answers mode s all way k item l .0 q in
       let many : length o ≡ length (n .table) = omega (arith, p .0 .each, owners-each h) in
       omega (arith, ap length e, exact-room (n .table) (h .passes) o many k, a-third (n .table) (h .passes) o many k, sides-most n k o, read-limits mode s all n (h .read) .few)
+  judged-fits mode way (RingRoom k) item l q = let (n, sets, h, on, known, o, p, e, i) = ring-room-answers mode s all way k item l .0 q in omega (arith, ap length e)
   judged-fits mode way (At x y) item l q = let (n, sets, h, known, o, p, k, t, i, e) = at-answers mode s all way x y item l .0 q in omega (arith, ap length e)
 
   -- An entry has the same room with an index as without.
@@ -146,6 +149,7 @@ module _ (s : List ℕ) (all : All (λ b. b < 256) s) where
   same-room lent mode way Owners = refl
   same-room lent mode way (Boundary k) = refl
   same-room lent mode way (Rings k) = refl
+  same-room lent mode way (RingRoom k) = refl
   same-room lent mode way (At x y) = refl
 
   pub fits : (e : Entry) (item : ℕ) (l : List ℕ) → outcomeOf e s ≡ bytes item l → length l ≤ roomOf e
@@ -163,6 +167,7 @@ module _ (s : List ℕ) (all : All (λ b. b < 256) s) where
   fits (owners mode way) item l q = judged-fits mode way Owners item l q
   fits (boundary mode way k) item l q = judged-fits mode way (Boundary k) item l q
   fits (rings mode way k) item l q = judged-fits mode way (Rings k) item l q
+  fits (ringRoom mode way k) item l q = judged-fits mode way (RingRoom k) item l q
   fits (listing mode way) item l q =
       ⊎-elim (λ (n, o, h, e). omega (arith, ap length e, listing-most way (with-owners n o) (omega (arith, read-limits mode s all n (h .read) .few-polygons)))) (λ (code, k, r, e). omega (arith, ap length e, line-most refusedWord code (pos k)))
       (listing-answers mode s all way item l .0 q .1)

@@ -7,9 +7,9 @@ use Rattle.plane.specs.Points.{Edge, Triangle, _⟶_, sides, sameEdge}
 use Rattle.table_neighbours.specs.Neighbours.{indexOf}
 use Rattle.sheet_written.specs.Fits.{origin}
 use Rattle.outcomes.specs.declared.Wanted.{Wanted}
-use Rattle.outcomes.specs.declared.Wanted.the-variants.{OwnerSets, Owners, Boundary, Rings, At}
+use Rattle.outcomes.specs.declared.Wanted.the-variants.{OwnerSets, Owners, Boundary, Rings, RingRoom, At}
 use Rattle.demands.specs.Triangles.{triangle}
-use Rattle.demands.specs.Entries.{Entry, ownerSets, owners, boundary, rings, ownerAt}
+use Rattle.demands.specs.Entries.{Entry, ownerSets, owners, boundary, rings, ringRoom, ownerAt}
 
 -- Side i of triangle k: ab is side 0, bc side 1, ca side 2.
 abbrev pub sideOf : List Triangle → ℕ → ℕ → Edge
@@ -31,4 +31,5 @@ without mode way OwnerSets = ownerSets mode
 without mode way Owners = owners mode way
 without mode way (Boundary polygon) = boundary mode way polygon
 without mode way (Rings polygon) = rings mode way polygon
+without mode way (RingRoom polygon) = ringRoom mode way polygon
 without mode way (At x y) = ownerAt mode way x y

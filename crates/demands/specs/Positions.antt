@@ -10,7 +10,7 @@ use Rattle.wkb.specs.declared.Step.the-variants.{Geometry, Ring, Point, End, Re
 use Rattle.wkb.specs.Steps.{toldAt}
 use Rattle.lent.specs.Stages.{value, refused}
 use Rattle.lent.specs.Answered.{Outcome}
-use Rattle.demands.specs.Entries.{Entry, numbers, areas, position, write, writeBlob, ownerSets, owners, boundary, rings, listing, ownerAt, index, indexed}
+use Rattle.demands.specs.Entries.{Entry, numbers, areas, position, write, writeBlob, ownerSets, owners, boundary, rings, ringRoom, listing, ownerAt, index, indexed}
 
 -- The next place is within the bytes, and as far from where the step began as the field is long: 9 bytes a header, 4 a ring's count, 16 a point.
 abbrev pub NextAfter : List ℕ → Cursor → Step → Type 0
@@ -42,6 +42,7 @@ ReadsSheet mode (ownerSets m) = m ≡ mode
 ReadsSheet mode (owners m way) = m ≡ mode
 ReadsSheet mode (boundary m way k) = m ≡ mode
 ReadsSheet mode (rings m way k) = m ≡ mode
+ReadsSheet mode (ringRoom m way k) = m ≡ mode
 ReadsSheet mode (listing m way) = ⊥
 ReadsSheet mode (ownerAt m way x y) = m ≡ mode
 ReadsSheet mode (index m) = m ≡ mode

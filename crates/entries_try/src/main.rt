@@ -129,7 +129,7 @@ fn indexed(entry: u8, input: &[u8], lent: &mut [u8]) -> u64 {
     with_index(entry, input, &rest[..size], &rest[size..], lent)
 }
 
-// What the entries answer that take what is asked as numbers: 7 numbers, 8 owner sets, 9 owners, 10 boundary, 11 listing, 19 rings. The mode, the way and the number of
+// What the entries answer that take what is asked as numbers: 7 numbers, 8 owner sets, 9 owners, 10 boundary, 11 listing, 19 rings, 21 the room of rings. The mode, the way and the number of
 // the polygon stand before the sheet, each as a little-endian u32, also where the entry doesn't take it.
 fn by(entry: u8, input: &[u8], lent: &mut [u8]) -> u64 {
     if input.len() < 12 {
@@ -145,12 +145,13 @@ fn by(entry: u8, input: &[u8], lent: &mut [u8]) -> u64 {
         10 => sheets::sheet_boundary_by(&input[12..], mode, way, polygon, lent),
         11 => sheets::sheet_listing_by(&input[12..], mode, way, lent),
         19 => sheets::sheet_rings(&input[12..], mode, way, polygon, lent),
+        21 => sheets::sheet_ring_room(&input[12..], mode, way, polygon),
         _ => 255,
     }
 }
 
 // What the entry answers: 0 numbers, 1 write, 2 owner sets, 3 owners, 4 boundary, 5 listing, 6 position, 7 to 11 those by a mode and a way, 12 write blob, 13 areas, 14 at a
-// point, 15 index, 16 to 18 and 20 those with an index, 19 rings. Any other answers 255, a code that no entry gives.
+// point, 15 index, 16 to 18 and 20 those with an index, 19 rings, 21 the room of rings. Any other answers 255, a code that no entry gives.
 fn answer(entry: u8, input: &[u8], lent: &mut [u8]) -> u64 {
     match entry {
         0 => sheets::sheet_numbers(input, lent),

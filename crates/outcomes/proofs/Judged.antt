@@ -2,7 +2,7 @@
 -- are those that bound it by number. Assumes nothing.
 use mathlib.Core.Path.{_≡_, refl, sym, _∙_, ap, ap₂, subst}
 use mathlib.Core.Bool.{true, false}
-use mathlib.Core.List.{List, map}
+use mathlib.Core.List.{List, [], map}
 use Prim.Native.Nat.{ℕ, _≤_, _<_}
 use native.Mathlib.Omega.{arith}
 use lib.Dec.{T, leb, leb→le}
@@ -12,25 +12,27 @@ use Rattle.whole.proofs.Sums.{and-right}
 use Rattle.plane.specs.Points.{Edge}
 use Rattle.plane.specs.Boundaries.{sidesOf}
 use Rattle.lent.specs.Stages.{Answer, value, refused, andThen, needing}
-use Rattle.lent.specs.Answered.{Outcome, bytes}
+use Rattle.lent.specs.Answered.{Outcome, bytes, answerOf, Answered}
 use Rattle.lent_sets.specs.Sets.{eachOutcome}
 use Rattle.table.specs.Opposites.{opposites}
 use Rattle.owners_marks.specs.Sets.{ownersOf}
 use Rattle.repair_longest.specs.Held.{lengthsHeld}
 use Rattle.repair.specs.Ways.{repairedBy}
 use Rattle.repair_sides.specs.Numbered.{boundaryNumbers}
+use Rattle.repair_rings.specs.Rings.{lines}
 use Rattle.repair_answers.specs.Answers.{numbersAfter}
 use Rattle.repair_answers.specs.Held.{ownersOutcome, sidesHeld, sidesOutcome}
-use Rattle.sheet_ring_bytes.specs.Lines.{linesOutcome, linesAfter}
-use Rattle.sheet_ring_bytes.specs.Held.{lineHeld, polygonRings, ringsOutcome, Begun}
+use Rattle.sheet_ring_bytes.specs.Lines.{linesOutcome, linesAfter, roomOutcome, roomAfter}
+use Rattle.sheet_ring_bytes.specs.Held.{lineHeld, polygonRings, ringsOutcome, ringRoomOutcome, Begun}
 use Rattle.judged.specs.Judged.{Judged, judgedSheet, repairOf}
 use Rattle.judged.specs.Held.{JudgedHeld}
 use Rattle.judged.proofs.Repaired.{rules, after-many}
 use Rattle.judged.proofs.Standing.{repair-held}
 use Rattle.judged.proofs.Sides.{sides-held, sides-as-many}
-use Rattle.outcomes.specs.declared.Wanted.the-variants.{OwnerSets, Owners, Boundary, Rings}
+use Rattle.outcomes.specs.declared.Wanted.the-variants.{OwnerSets, Owners, Boundary, Rings, RingRoom}
 use Rattle.listing.specs.Listing.{listing}
 use Rattle.outcomes.proofs.Rings.{lines-held, rings-begun}
+use Rattle.outcomes.proofs.Unwritten.{then-unwritten, nothing-written}
 use Rattle.outcomes.specs.Entries.{onSheet, sidesAfter, ownedSides, goesOn, sheetListingBy}
 
 -- Two ways to go on that are the same for each value of a stage.
@@ -79,10 +81,24 @@ module _ {j : Judged} {numbers opposite sets : List ℕ} (w : JudgedHeld j numbe
         subst (λ o. All (λ r. 1 ≤ length r) (polygonRings o l polygon)) (sym (w .crossed))
         (rings-begun (w .size) numbers (w .held) (table .0) (table .1) (table .2) l (after-many (w .comes) (w .held) way l (sym (repair-held w way) ∙ e)) polygon)
 
-    pub rings-on : onSheet polygon (j .sheet) ≡ true → ringsOutcome numbers way (lengthsHeld numbers (length opposite)) opposite (map ownersOf sets) polygon ≡ goesOn way (Rings polygon) j
-    rings-on = on-sides (λ o owners. linesOutcome (map (lineHeld numbers) (polygonRings o owners polygon))) linesAfter (λ owners e.
+    -- The lines by number are those of the polygon's triangles.
+    lines-on : (owners : List ℕ) → repairOf way j ≡ value owners → map (lineHeld numbers) (polygonRings (opposites (sidesOf (j .sheet .table))) owners polygon) ≡ lines (ownedSides (j .sheet) polygon owners)
+    lines-on owners e =
         let table = rules (w .comes) in
-        ap linesOutcome (lines-held (w .size) numbers (w .held) (table .0) (table .1) (table .2) owners (after-many (w .comes) (w .held) way owners e) polygon))
+        lines-held (w .size) numbers (w .held) (table .0) (table .1) (table .2) owners (after-many (w .comes) (w .held) way owners e) polygon
+
+    pub rings-on : onSheet polygon (j .sheet) ≡ true → ringsOutcome numbers way (lengthsHeld numbers (length opposite)) opposite (map ownersOf sets) polygon ≡ goesOn way (Rings polygon) j
+    rings-on = on-sides (λ o owners. linesOutcome (map (lineHeld numbers) (polygonRings o owners polygon))) linesAfter (λ owners e. ap linesOutcome (lines-on owners e))
+
+    pub room-on : onSheet polygon (j .sheet) ≡ true → ringRoomOutcome numbers way (lengthsHeld numbers (length opposite)) opposite (map ownersOf sets) polygon ≡ goesOn way (RingRoom polygon) j
+    room-on = on-sides (λ o owners. roomOutcome (map (lineHeld numbers) (polygonRings o owners polygon))) roomAfter (λ owners e. ap roomOutcome (lines-on owners e))
+
+    -- The room is told without bytes, so that any lent bytes suffice and stay as they were.
+    pub room-answered : (lent : List ℕ) {r : ℕ} → r ≡ answerOf (goesOn way (RingRoom polygon) j) [] → Answered (goesOn way (RingRoom polygon) j) lent r lent
+    room-answered lent =
+        let told : List ℕ → Outcome = λ owners. roomAfter (ownedSides (j .sheet) polygon owners) in
+        nothing-written (goesOn way (RingRoom polygon) j) lent
+        (then-unwritten (needing (onSheet polygon (j .sheet)) 41 0) (λ _. andThen (repairOf way j) told) (λ _. then-unwritten (repairOf way j) told (λ owners. refl)))
 
 -- The listing's bytes, and their number; of a refused sheet too.
 pub listing-on : (mode way : ℕ) (s : List ℕ) → sheetListingBy mode way s ≡ bytes (length (listing way (judgedSheet mode s))) (listing way (judgedSheet mode s))

@@ -2,6 +2,7 @@
 pub mod Outcomes
 pub mod Position
 pub mod Rings
+pub mod Unwritten
 pub mod Judged
 pub mod Point
 pub mod Sized

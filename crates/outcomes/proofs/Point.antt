@@ -1,5 +1,5 @@
 -- What a held judged sheet goes on to at a point, as the code comes to it. The idea: the triangles off the held numbers are those of the table. Assumes nothing.
-use mathlib.Core.Path.{_≡_, refl, sym, _∙_, ap, ap₂, subst}
+use mathlib.Core.Path.{_≡_, refl, sym, _∙_, ap, ap₂}
 use mathlib.Core.List.{List, [], _∷_, map}
 use mathlib.Core.Option.{Option, none, some}
 use Prim.Native.Nat.{ℕ, zero, suc, _+_, _-_, _*_, _≤_, _<_}
@@ -10,9 +10,8 @@ use lib.Seq.{ext-getD}
 use Rattle.whole.specs.Sums.{All}
 use Rattle.plane.specs.Points.{Point, Triangle}
 use Rattle.plane.specs.Keys.{Held, keyOf, pointAt, triangleAt}
-use Rattle.lent.specs.Stages.{Answer, value, refused, andThen}
+use Rattle.lent.specs.Stages.{andThen}
 use Rattle.lent.specs.Answered.{Answered, answerOf}
-use Rattle.lent.proofs.Answered.{answered-bytes}
 use Rattle.table.specs.Sides.{trianglesOf}
 use Rattle.table.proofs.Shares.{length-triangles}
 use Rattle.table_points.specs.Points.{triangleOf}
@@ -31,6 +30,7 @@ use Rattle.judged.proofs.Standing.{sets-many, repair-held}
 use Rattle.judged.proofs.Sides.{point-held}
 use Rattle.outcomes.specs.declared.Wanted.the-variants.{At}
 use Rattle.outcomes.specs.Entries.{goesOn}
+use Rattle.outcomes.proofs.Unwritten.{Unwritten, then-unwritten, nothing-written}
 
 -- Triangle u of those whose corners these are.
 triangle-at : (keys : List ℕ) (n : ℕ) → length keys ≡ 3 * n → (u : ℕ) → u < n → (d : Triangle) → getD (trianglesOf keys) u d ≡ triangleAt keys u
@@ -76,9 +76,8 @@ module _ {j : Judged} {numbers opposite sets : List ℕ} (w : JudgedHeld j numbe
 
   -- It writes nothing, so that any lent bytes suffice and stay as they were.
   pub point-answered : (lent : List ℕ) {r : ℕ} → r ≡ answerOf (goesOn way (At x y) j) [] → Answered (goesOn way (At x y) j) lent r lent
-  point-answered lent {r} = nothing (triangleOf z (j .sheet .table)) (repairOf way j)
+  point-answered lent = nothing-written (goesOn way (At x y) j) lent (then-unwritten (repairOf way j) (ownerThere (triangleOf z (j .sheet .table))) (λ l. nothing l (triangleOf z (j .sheet .table))))
     where
-      nothing : (k : Option ℕ) (a : Answer (List ℕ)) → r ≡ answerOf (andThen a (ownerThere k)) [] → Answered (andThen a (ownerThere k)) lent r lent
-      nothing k (refused code item) e = record { answer = e; left = refl }
-      nothing none (value l) e = record { answer = e; left = refl }
-      nothing (some k) (value l) e = subst (λ r. Answered (ownerThere (some k) l) lent r lent) (sym e) (answered-bytes (ownerThere (some k) l) lent (getD l (k - 1) 0) [] refl lent (omega arith) refl)
+      nothing : (l : List ℕ) (k : Option ℕ) → Unwritten (ownerThere k l)
+      nothing l none = tt
+      nothing l (some k) = refl

@@ -26,12 +26,12 @@ use Rattle.sheet_blob.specs.declared.Opened.{Opened}
 use Rattle.sheet_blob_written.specs.Given.{blobGiven, writeBlob}
 use Rattle.sheet_modes.specs.Modes.{modeOf, headerBy, readBy, framed, positionIn}
 use Rattle.sheet_written.specs.Given.{sheetGiven, writeOutcome}
-use Rattle.sheet_ring_bytes.specs.Lines.{linesAfter}
+use Rattle.sheet_ring_bytes.specs.Lines.{linesAfter, roomAfter}
 use Rattle.judged.specs.Judged.{Judged, matched, checkFramed, judgedWith, judgedSheet, repairOf}
 use Rattle.listing.specs.Listing.{listing}
 use Rattle.outcomes.specs.declared.Asked.{Asked}
 use Rattle.outcomes.specs.declared.Wanted.{Wanted}
-use Rattle.outcomes.specs.declared.Wanted.the-variants.{OwnerSets, Owners, Boundary, Rings, At}
+use Rattle.outcomes.specs.declared.Wanted.the-variants.{OwnerSets, Owners, Boundary, Rings, RingRoom, At}
 
 -- The numbers form of a sheet as bytes, each number as a little-endian i32; the item is their number.
 abbrev pub formOf : Sheet → List ℕ
@@ -109,13 +109,14 @@ abbrev pub onSheet : ℕ → Sheet → Bool
 onSheet polygon n = leb 1 polygon && leb polygon (length (n .polygons))
 
 -- What a judged sheet goes on to, repaired in a way. The owner sets before repair; a refusal of repair, or the number of each triangle after it; 41 where the
--- asked polygon isn't on the sheet, then a refusal of repair, or the boundary sides, as they stand or joined into closed lines; a refusal of repair, then 55 where the point belongs to no triangle, or the owner of
+-- asked polygon isn't on the sheet, then a refusal of repair, or the boundary sides, as they stand or joined into closed lines, or the room that these take; a refusal of repair, then 55 where the point belongs to no triangle, or the owner of
 -- the triangle that it belongs to.
 abbrev pub goesOn : ℕ → Wanted → Judged → Outcome
 goesOn way OwnerSets j = eachOutcome (map setOf (j .owners))
 goesOn way Owners j = andThen (repairOf way j) numbersAfter
 goesOn way (Boundary polygon) j = andThen (needing (onSheet polygon (j .sheet)) 41 0) (λ _. andThen (repairOf way j) (λ owners. sidesAfter (ownedSides (j .sheet) polygon owners)))
 goesOn way (Rings polygon) j = andThen (needing (onSheet polygon (j .sheet)) 41 0) (λ _. andThen (repairOf way j) (λ owners. linesAfter (ownedSides (j .sheet) polygon owners)))
+goesOn way (RingRoom polygon) j = andThen (needing (onSheet polygon (j .sheet)) 41 0) (λ _. andThen (repairOf way j) (λ owners. roomAfter (ownedSides (j .sheet) polygon owners)))
 goesOn way (At x y) j = andThen (repairOf way j) (ownerThere (triangleOf (record { x = x; y = y }) (j .sheet .table)))
 
 -- The road of the entries that judge: the bytes come to a judged sheet, with the index that is lent or none, which goes on to what is wanted.
@@ -135,6 +136,10 @@ sheetBoundaryBy mode way polygon = answerTo (record { mode = mode; way = way; wa
 -- sheet_rings for the polygon of the number.
 abbrev pub sheetRings : ℕ → ℕ → ℕ → List ℕ → Outcome
 sheetRings mode way polygon = answerTo (record { mode = mode; way = way; wanted = Rings polygon; indexed = false }) []
+
+-- sheet_ring_room: the number of bytes that sheet_rings comes to, as the item. It writes no bytes.
+abbrev pub sheetRingRoom : ℕ → ℕ → ℕ → List ℕ → Outcome
+sheetRingRoom mode way polygon = answerTo (record { mode = mode; way = way; wanted = RingRoom polygon; indexed = false }) []
 
 -- sheet_at: the owner after repair at the point (x, y) as the item. It writes no bytes.
 abbrev pub sheetAt : ℕ → ℕ → ℤ → ℤ → List ℕ → Outcome

@@ -1,12 +1,13 @@
 // What is asked of the entries that judge a sheet. Each entry fills it in.
 
 // What is wanted of a judged sheet: the owners of each triangle before repair; the owner of each after repair; the boundary sides of a polygon
-// after repair, by its number, as they stand, and joined into closed rings; the owner after repair at a point, by its x and y.
+// after repair, by its number, as they stand, joined into closed rings, and the room that these take; the owner after repair at a point, by its x and y.
 pub enum Wanted {
     OwnerSets,
     Owners,
     Boundary(u32),
     Rings(u32),
+    RingRoom(u32),
     At(i32, i32),
 }
 

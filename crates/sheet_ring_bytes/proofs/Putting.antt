@@ -13,9 +13,10 @@ use Rattle.repair_longest.specs.Held.{pointHeld}
 use Rattle.wkb_header.specs.Header.{headed}
 use Rattle.wkb.specs.Standard.{encodePoint}
 use Rattle.wkb_lines.specs.Lines.{lineString, multiLineString, encodeLine}
+use Rattle.wkb_lines.specs.Room.{roomOf}
 use Rattle.wkb_lines.proofs.Lengths.{headed-nine, point-sixteen, line-length}
 use Rattle.sheet_written.specs.Normal.{pairOf}
-use Rattle.sheet_ring_bytes.specs.Lines.{lineBytes, roomOf}
+use Rattle.sheet_ring_bytes.specs.Lines.{lineBytes}
 use Rattle.sheet_ring_bytes.specs.Held.{lineHeld, ringsIn, Rising}
 
 -- Things written over the front of what is left: one more is written, and none is left.

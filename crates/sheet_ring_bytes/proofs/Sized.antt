@@ -1,9 +1,9 @@
 -- The closed lines by number are those of the sides, and how many bytes the lines of a set of triangles have: 9 for the whole, 16 for each boundary side, 25 for each
 -- ring, since a line has a point for each side and one more. Assumes nothing.
-use mathlib.Core.Path.{_≡_, refl, sym, ap₂, subst}
+use mathlib.Core.Path.{_≡_, refl, sym, _∙_, ap, ap₂, subst}
 use mathlib.Core.Bool.{Bool}
 use mathlib.Core.List.{List, [], _∷_, map, flatMap}
-use Prim.Native.Nat.{ℕ, _≤_}
+use Prim.Native.Nat.{ℕ, _+_, _≤_}
 use native.Mathlib.Omega.{arith}
 use lib.ListN.{length, length-append, length-map}
 use Rattle.whole.specs.Sums.{All}
@@ -16,10 +16,11 @@ use Rattle.table.proofs.Sets.{tally}
 use Rattle.repair_longest.specs.Held.{pointHeld}
 use Rattle.repair_sides.specs.Sides.{boundarySides}
 use Rattle.repair_rings.specs.Rings.{rings, pointsOf, lines}
-use Rattle.repair_rings.proofs.Rings.{ClosedRing, all-closed, lines-points}
-use Rattle.wkb_lines.proofs.Lengths.{lines-length}
+use Rattle.repair_rings.proofs.Rings.{ClosedRing, all-closed, lines-points, a-third}
+use Rattle.wkb_lines.specs.Room.{roomOf, mostRoom}
+use Rattle.wkb_lines.proofs.Room.{closed-room, third-most}
 use Rattle.sheet_written.specs.Normal.{pairOf}
-use Rattle.sheet_ring_bytes.specs.Lines.{lineBytes, roomOf}
+use Rattle.sheet_ring_bytes.specs.Lines.{lineBytes}
 use Rattle.sheet_ring_bytes.specs.Held.{lineHeld}
 
 -- ---- rings by number and rings of sides
@@ -56,11 +57,10 @@ module _ (table : List Triangle) (area : RuleA table) (once : RuleB table) (fram
   begun side rs e = sides-begun side rs (subst (All ClosedRing) (sym e) (all-closed table area once framed s fit))
 
   pub lines-room : length (lineBytes (lines bound)) ≡ roomOf (length bound) (length (rings bound))
-  lines-room = omega (
-    arith,
-    lines-length (map (map pairOf) (lines bound)),
-    length-map (lines bound) (map pairOf),
-    length-map (rings bound) pointsOf,
-    points-tally (lines bound),
-    lines-points table area once framed s fit,
-  )
+  lines-room =
+      let many = length-map (lines bound) (map pairOf) ∙ length-map (rings bound) pointsOf in
+      closed-room (map (map pairOf) (lines bound)) (length bound) (points-tally (lines bound) ∙ lines-points table area once framed s fit ∙ ap (λ n. length bound + n) (sym many)) ∙ ap (roomOf (length bound)) many
+
+  -- At most a third as many rings as sides: the bytes are never more than that takes.
+  pub lines-most : length (lineBytes (lines bound)) ≤ mostRoom (length bound)
+  lines-most = omega (arith, lines-room, third-most (length bound) (length (rings bound)) (a-third table area once framed s fit))

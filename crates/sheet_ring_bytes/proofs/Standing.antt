@@ -18,9 +18,10 @@ use Rattle.repair_follower.proofs.Along.{across-below, end-below, before-below}
 use Rattle.repair_ring_walk.specs.Walk.{endsFrom, RingsDown}
 use Rattle.repair_ring_walk.proofs.Members
 use Rattle.repair_ring_walk.proofs.Ringing.{ends-many}
-use Rattle.wkb_lines.proofs.Lengths.{lines-length}
+use Rattle.wkb_lines.specs.Room.{roomOf}
+use Rattle.wkb_lines.proofs.Room.{closed-room}
 use Rattle.sheet_written.specs.Normal.{pairOf}
-use Rattle.sheet_ring_bytes.specs.Lines.{lineBytes, roomOf}
+use Rattle.sheet_ring_bytes.specs.Lines.{lineBytes}
 use Rattle.sheet_ring_bytes.specs.Held.{lineHeld, polygonRings, ringsIn, Rising, Standing}
 use Rattle.sheet_ring_bytes.proofs.Putting.{ring-points}
 
@@ -67,10 +68,11 @@ held-points numbers (r ∷ rings) h =
       held-points numbers rings (h .1),
     )
 
-pub held-room : (numbers : List ℕ) (rings : List (List ℕ)) → All (λ r. 1 ≤ length r) rings → length (lineBytes (map (lineHeld numbers) rings)) ≡ roomOf (length (joined rings)) (length rings)
+held-room : (numbers : List ℕ) (rings : List (List ℕ)) → All (λ r. 1 ≤ length r) rings → length (lineBytes (map (lineHeld numbers) rings)) ≡ roomOf (length (joined rings)) (length rings)
 held-room numbers rings h =
     let ls = map (lineHeld numbers) rings in
-    omega (arith, lines-length (map (map pairOf) ls), length-map ls (map pairOf), length-map rings (lineHeld numbers), held-points numbers rings h)
+    let many = length-map ls (map pairOf) ∙ length-map rings (lineHeld numbers) in
+    closed-room (map (map pairOf) ls) (length (joined rings)) (held-points numbers rings h ∙ ap (λ n. length (joined rings) + n) (sym many)) ∙ ap (roomOf (length (joined rings))) many
 
 -- ---- rings laid down
 last-from : (at : ℕ) (r : List ℕ) (rings : List (List ℕ)) → getD (endsFrom at (r ∷ rings)) (length rings) 0 ≡ at + length (joined (r ∷ rings))
@@ -126,9 +128,13 @@ module _ {rings : List (List ℕ)} {before endsBefore : List ℕ} {r : ℕ} {aft
           ∙ last-end rings (omega (arith, d .many)))
 
 -- What stands is as much as is told.
-pub standing-many : {rings : List (List ℕ)} {k r : ℕ} {order ends : List ℕ} → Standing rings k r order ends → (length (joined rings) ≡ k) × (length rings ≡ r)
+standing-many : {rings : List (List ℕ)} {k r : ℕ} {order ends : List ℕ} → Standing rings k r order ends → (length (joined rings) ≡ k) × (length rings ≡ r)
 standing-many {rings} {k} {r} {order} {ends} s =
     (ap length (sym (s .sides)) ∙ length-take-le k order (s .order-room), sym (ends-many 0 rings) ∙ ap length (sym (s .ended)) ∙ length-take-le r ends (s .ends-room))
+
+-- So their bytes are as many as that takes.
+pub standing-room : (numbers : List ℕ) {rings : List (List ℕ)} {k r : ℕ} {order ends : List ℕ} → All (λ r. 1 ≤ length r) rings → Standing rings k r order ends → length (lineBytes (map (lineHeld numbers) rings)) ≡ roomOf k r
+standing-room numbers {rings} h s = let m = standing-many s in held-room numbers rings h ∙ ap₂ roomOf (m .0) (m .1)
 
 -- ---- the sides of rings are sides of the table
 module _ (opposite : List ℕ) {n : ℕ} (p : Paired opposite n) where

@@ -13,7 +13,7 @@ use Rattle.repair.specs.Ways.{repairedBy}
 use Rattle.repair_sides.specs.Numbered.{boundaryNumbers}
 use Rattle.repair_follower.specs.Follower.{follower}
 use Rattle.repair_ring_walk.specs.Walk.{ringNumbers, endsFrom}
-use Rattle.sheet_ring_bytes.specs.Lines.{linesOutcome}
+use Rattle.sheet_ring_bytes.specs.Lines.{linesOutcome, roomOutcome}
 use Rattle.sheet_ring_bytes.specs.declared.Joined.{Joined}
 use Rattle.sheet_ring_bytes.specs.declared.Joined.the-variants.{Rings, Refused}
 
@@ -27,10 +27,14 @@ abbrev pub polygonRings : (opposite owners : List ℕ) → ℕ → List (List �
 polygonRings opposite owners polygon =
     ringNumbers (length (boundaryNumbers opposite owners polygon)) (follower opposite owners polygon) [] (boundaryNumbers opposite owners polygon)
 
--- The closed lines of a polygon after repair in a way.
+-- The closed lines of a polygon after repair in a way, and the room that they take.
 abbrev pub ringsOutcome : List ℕ → ℕ → List ℕ → List ℕ → List (List ℕ) → ℕ → Outcome
 ringsOutcome numbers way lengths opposite owners polygon =
     andThen (repairedBy way lengths opposite owners) (λ l. linesOutcome (map (lineHeld numbers) (polygonRings opposite l polygon)))
+
+abbrev pub ringRoomOutcome : List ℕ → ℕ → List ℕ → List ℕ → List (List ℕ) → ℕ → Outcome
+ringRoomOutcome numbers way lengths opposite owners polygon =
+    andThen (repairedBy way lengths opposite owners) (λ l. roomOutcome (map (lineHeld numbers) (polygonRings opposite l polygon)))
 
 -- ---- rings that stand one behind the other in a list
 -- The rings from a place on, by where each ends; and none of them is empty.

@@ -1,6 +1,6 @@
 -- The closed lines of a polygon's boundary after repair, as bytes: those that the writer would write of their points.
-use mathlib.Core.List.{List, map}
-use Prim.Native.Nat.{ℕ, _+_, _*_}
+use mathlib.Core.List.{List, [], map}
+use Prim.Native.Nat.{ℕ}
 use lib.ListN.{length}
 use Rattle.plane.specs.Points.{Edge}
 use Rattle.plane.specs.Members.{Ring}
@@ -20,6 +20,9 @@ linesOutcome ls = bytes (length (lineBytes ls)) (lineBytes ls)
 abbrev pub linesAfter : List Edge → Outcome
 linesAfter sides = linesOutcome (lines sides)
 
--- How many bytes so many rings of so many sides have.
-abbrev pub roomOf : (sides rings : ℕ) → ℕ
-roomOf sides rings = 9 + 16 * sides + 25 * rings
+-- The room that closed lines take: as the item, how many bytes they have. Nothing is written.
+abbrev pub roomOutcome : List Ring → Outcome
+roomOutcome ls = bytes (length (lineBytes ls)) []
+
+abbrev pub roomAfter : List Edge → Outcome
+roomAfter sides = roomOutcome (lines sides)

@@ -1,13 +1,13 @@
 // The boundary of a polygon after repair as closed lines, written over lent bytes as a WKB MultiLineString.
 ghost use mathlib.Core.Path.{_≡_};
 ghost use mathlib.Core.Bool.{true};
-ghost use mathlib.Core.List.{map};
+ghost use mathlib.Core.List.{[], map};
 ghost use Prim.Native.Nat.{_+_, _*_, _≤_, _<_};
 ghost use lib.ListN.{length};
 ghost use lib.Seq.{sets};
 ghost use Rattle.whole.specs.Sums.{All};
 ghost use Rattle.plane.specs.Corners.{millimetres};
-ghost use Rattle.lent.specs.Answered.{Answered};
+ghost use Rattle.lent.specs.Answered.{Answered, answerOf};
 ghost use Rattle.lent_little.specs.Held.{SideIn};
 ghost use Rattle.owners_marks.specs.Sets.{ownersOf};
 ghost use Rattle.repair_regions.specs.Spreading.{Paired};
@@ -15,9 +15,10 @@ ghost use Rattle.repair_longest.specs.Held.{TableIn, pointHeld, lengthsHeld};
 ghost use Rattle.repair.specs.Ways.{repairedBy};
 ghost use Rattle.wkb.specs.Standard.{encodePoint};
 ghost use Rattle.wkb_lines.specs.Lines.{encodeLine};
+ghost use Rattle.wkb_lines.specs.Room.{roomOf};
 ghost use Rattle.sheet_written.specs.Normal.{patternOf, pairOf};
-ghost use Rattle.sheet_ring_bytes.specs.Lines.{roomOf, lineBytes};
-ghost use Rattle.sheet_ring_bytes.specs.Held.{lineHeld, polygonRings, ringsOutcome, ringsIn, Rising, JoinedBy, Begun};
+ghost use Rattle.sheet_ring_bytes.specs.Lines.{lineBytes};
+ghost use Rattle.sheet_ring_bytes.specs.Held.{lineHeld, polygonRings, ringsOutcome, ringRoomOutcome, ringsIn, Rising, JoinedBy, Begun};
 use plane::OFFSET;
 use wkb_kinds::Kind;
 
@@ -145,5 +146,19 @@ pub fn rings(
             put_lines(numbers, &order[..k], &ends[..r], out);
             size as u64 * 256
         }
+    }
+}
+
+// How many bytes the same MultiLineString has, as the item; a refusal of repair is passed on.
+pub fn ring_room(way: u32, numbers: &[u32], opposite: &[usize], sets: &[u64], polygon: u8) -> u64
+    requires { ⌜ Paired (now opposite) (length (now sets)) × (length (now sets) ≤ 1024) × TableIn (now numbers) (length (now sets))
+        × Begun (repairedBy way (lengthsHeld (now numbers) (length (now opposite))) (now opposite) (map ownersOf (now sets))) (λ l. polygonRings (now opposite) l polygon) ⌝ }
+    ensures { λ r. ⌜ r ≡ answerOf (ringRoomOutcome (now (numbers .entry)) way (lengthsHeld (now (numbers .entry)) (length (now (opposite .entry)))) (now (opposite .entry)) (map ownersOf (now (sets .entry))) polygon) [] ⌝ }
+{
+    let mut order = [0usize; 3072];
+    let mut ends = [0usize; 3072];
+    match found(way, numbers, opposite, sets, polygon, &mut order, &mut ends) {
+        Joined::Refused(code, item) => item as u64 * 256 + code as u64,
+        Joined::Rings(k, r) => room(k, r) as u64 * 256,
     }
 }

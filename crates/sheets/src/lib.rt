@@ -3,7 +3,7 @@
 ghost use mathlib.Core.Path.{_≡_};
 ghost use mathlib.Core.List.{[]};
 ghost use Rattle.lent.specs.Answered.{Answered, answerOf};
-ghost use Rattle.outcomes.specs.Entries.{sheetNumbers, sheetNumbersBy, sheetAreas, sheetPosition, sheetWrite, sheetWriteBlob, sheetOwnerSets, sheetOwnerSetsBy, sheetOwners, sheetOwnersBy, sheetBoundary, sheetBoundaryBy, sheetListing, sheetListingBy, sheetAt, sheetIndex, sheetOwnerSetsIndexed, sheetOwnersIndexed, sheetBoundaryIndexed, sheetRings, sheetRingsIndexed};
+ghost use Rattle.outcomes.specs.Entries.{sheetNumbers, sheetNumbersBy, sheetAreas, sheetPosition, sheetWrite, sheetWriteBlob, sheetOwnerSets, sheetOwnerSetsBy, sheetOwners, sheetOwnersBy, sheetBoundary, sheetBoundaryBy, sheetListing, sheetListingBy, sheetAt, sheetIndex, sheetOwnerSetsIndexed, sheetOwnersIndexed, sheetBoundaryIndexed, sheetRings, sheetRingsIndexed, sheetRingRoom};
 use outcomes::Asked;
 use outcomes::Wanted;
 
@@ -182,6 +182,25 @@ pub extern "C" fn sheet_listing_by(sheet: &[u8], mode: u32, way: u32, out: &mut 
     ensures { λ r. ⌜ Answered (sheetListingBy mode way (now (sheet .entry))) (now (out .entry)) r (now (out .exit)) ⌝ }
 {
     sheets_listing::listing(sheet, mode, way, out)
+}
+
+// The number of bytes that sheet_rings writes, as the item. No bytes are lent.
+#[no_mangle]
+pub extern "C" fn sheet_ring_room(sheet: &[u8], mode: u32, way: u32, polygon: u32) -> u64
+    ensures { λ r. ⌜ r ≡ answerOf (sheetRingRoom mode way polygon (now (sheet .entry))) [] ⌝ }
+{
+    let mut none = [0u8; 0];
+    sheets_answers::answer(
+        Asked {
+            mode: mode,
+            way: way,
+            wanted: Wanted::RingRoom(polygon),
+            indexed: false,
+        },
+        sheet,
+        &[0u8; 0],
+        &mut none,
+    )
 }
 
 // What is at the point: the number of the polygon that owns it after repair in a way, as the item, of a sheet that is read in a mode. No bytes are lent.

@@ -1,12 +1,12 @@
 // The road of the entries that judge, by what is asked: the exported entries only fill it in. Each answers item × 256 + code.
 ghost use mathlib.Core.Path.{_≡_};
-ghost use mathlib.Core.List.{List};
+ghost use mathlib.Core.List.{List, []};
 ghost use Prim.Native.Nat.{ℕ, _≤_};
 ghost use lib.ListN.{length};
-ghost use Rattle.lent.specs.Answered.{Answered};
+ghost use Rattle.lent.specs.Answered.{Answered, answerOf};
 ghost use Rattle.judged.specs.Judged.{Judged};
 ghost use Rattle.judged.specs.Held.{JudgedHeld, Rooms};
-ghost use Rattle.outcomes.specs.declared.Wanted.the-variants.{Boundary, Rings};
+ghost use Rattle.outcomes.specs.declared.Wanted.the-variants.{Boundary, Rings, RingRoom};
 ghost use Rattle.outcomes.specs.Entries.{onSheet, goesOn, answerTo};
 use judged_sets::Owning;
 use outcomes::Asked;
@@ -60,6 +60,17 @@ fn rings(
     sheet_ring_bytes::rings(way, numbers, opposite, sets, polygon as u8, out)
 }
 
+// The room that these take, as the item.
+fn ring_room(way: u32, polygon: u32, numbers: &[u32], opposite: &[usize], sets: &[u64]) -> u64
+    requires { ⌜ ((j : Judged) × JudgedHeld j (now numbers) (now opposite) (now sets)) ⌝ }
+    ensures { λ r. ⌜ ((j : Judged) → JudgedHeld j (now (numbers .entry)) (now (opposite .entry)) (now (sets .entry)) → r ≡ answerOf (goesOn way (RingRoom polygon) j) []) ⌝ }
+{
+    if !on_sheet(polygon, numbers, sets.len()) {
+        return 41;
+    }
+    sheet_ring_bytes::ring_room(way, numbers, opposite, sets, polygon as u8)
+}
+
 // What a judged sheet goes on to, by what is wanted, repaired in a way.
 fn go_on(
     way: u32,
@@ -77,6 +88,7 @@ fn go_on(
         Wanted::Owners => repair_owner_bytes::owners(way, numbers, opposite, sets, out),
         Wanted::Boundary(polygon) => boundary(way, polygon, numbers, opposite, sets, out),
         Wanted::Rings(polygon) => rings(way, polygon, numbers, opposite, sets, out),
+        Wanted::RingRoom(polygon) => ring_room(way, polygon, numbers, opposite, sets),
         Wanted::At(x, y) => repair_point::owner_at(way, numbers, opposite, sets, x, y),
     }
 }

@@ -1,3 +1,4 @@
 -- The laws of lines in the binary form.
 pub mod Lengths
+pub mod Room
 pub mod Examples

@@ -1,2 +1,3 @@
 -- Lines in the binary form.
 pub mod Lines
+pub mod Room

@@ -152,6 +152,7 @@ fn word(entry: Entry) -> String {
         Entry::OwnersBy(mode, _) => by("sheet_owners_by", mode),
         Entry::BoundaryBy(mode, ..) => by("sheet_boundary_by", mode),
         Entry::Rings(mode, ..) => by("sheet_rings", mode),
+        Entry::RingRoom(mode, ..) => by("sheet_ring_room", mode),
         Entry::ListingBy(mode, _) => by("sheet_listing_by", mode),
         Entry::At(mode, ..) => by("sheet_at", mode),
         Entry::Index(mode) => by("sheet_index", mode),

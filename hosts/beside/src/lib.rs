@@ -19,6 +19,7 @@ pub fn call(entry: Entry, input: &[u8], out: &mut [u8]) -> Result<u64, Refusal> 
         Entry::OwnersBy(mode, way) => lent::owners_by(input, mode, way, out),
         Entry::BoundaryBy(mode, way, polygon) => lent::boundary_by(input, mode, way, polygon, out),
         Entry::Rings(mode, way, polygon) => lent::rings(input, mode, way, polygon, out),
+        Entry::RingRoom(mode, way, polygon) => lent::ring_room(input, mode, way, polygon),
         Entry::ListingBy(mode, way) => lent::listing_by(input, mode, way, out),
         Entry::WriteBlob => lent::write_blob(input, out),
         Entry::At(mode, way, x, y) => lent::at(input, mode, way, x, y),

@@ -22,7 +22,7 @@ pub unsafe extern "C" fn LLVMFuzzerTestOneInput(data: *const u8, size: usize) ->
     let older = [Entry::OwnerSetsBy(1), Entry::OwnersBy(1, way), Entry::BoundaryBy(1, way, asked), Entry::ListingBy(1, way)];
     let mode = 2 + asked % 2;
     let of_blobs = [Entry::NumbersBy(mode), Entry::Position(mode), Entry::OwnerSetsBy(mode), Entry::OwnersBy(mode, way)];
-    let rings = [Entry::Rings(0, way, asked), Entry::Rings(mode, 0, 1)];
+    let rings = [Entry::Rings(0, way, asked), Entry::Rings(mode, 0, 1), Entry::RingRoom(0, way, asked), Entry::RingRoom(mode, 0, 1)];
     let more = [Entry::Areas(mode), Entry::BoundaryBy(mode, way, asked), Entry::ListingBy(mode, way), Entry::WriteBlob];
     let coordinate = |back: usize| input.len().checked_sub(back).map_or(0, |at| i32::from(input[at] as i8)) << (7 * asked);
     let (x, y) = (coordinate(2), coordinate(3));

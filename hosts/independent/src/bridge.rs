@@ -9,7 +9,7 @@
 //! together from what the wrapper says; u32 length; and so many bytes, the wrapper's value turned back to bytes, none for a
 //! refusal. The wrapper alone has a verdict: its item is 0 and its value one byte, 0 for clean and 1 for repair. A wrapper is
 //! asked in known modes and ways only; its functions without a mode are called where a verdict, a position
-//! or areas have mode 0, or a point or rings are asked for in mode 0 and way 0.
+//! or areas have mode 0, or a point, rings or their room are asked for in mode 0 and way 0.
 //!
 //! Frames may come without waiting for answers; a bridge that has no frame left to take must have flushed its answers.
 
@@ -19,7 +19,7 @@ use std::io::Read;
 use std::process::{Child, Command, Stdio};
 
 /// The functions' names, by the numbers that they have in a frame.
-pub const NAMES: [&str; 22] = [
+pub const NAMES: [&str; 23] = [
     "numbers",
     "write",
     "owner sets",
@@ -42,6 +42,7 @@ pub const NAMES: [&str; 22] = [
     "boundary with an index",
     "rings",
     "rings with an index",
+    "ring room",
 ];
 
 /// What is called.
@@ -97,6 +98,7 @@ impl Function {
             Function::Entry(Entry::BoundaryIndexed(_, mode, way, polygon)) => (19, [mode, way, polygon]),
             Function::Entry(Entry::Rings(mode, way, polygon)) => (20, [mode, way, polygon]),
             Function::Entry(Entry::RingsIndexed(_, mode, way, polygon)) => (21, [mode, way, polygon]),
+            Function::Entry(Entry::RingRoom(mode, way, polygon)) => (22, [mode, way, polygon]),
         }
     }
 
@@ -120,6 +122,7 @@ impl Function {
             Entry::OwnersBy(mode, way),
             Entry::BoundaryBy(mode, way, polygon),
             Entry::Rings(mode, way, polygon),
+            Entry::RingRoom(mode, way, polygon),
             Entry::ListingBy(mode, way),
             Entry::At(mode, way, x, y),
             Entry::Index(mode),

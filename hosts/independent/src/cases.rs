@@ -180,7 +180,9 @@ mod tests {
                 let point = |&(x, y): &(i32, i32)| Point { x: x.into(), y: y.into() };
                 let rings: Vec<Ring> = rings.iter().map(|ring| ring.iter().map(point).collect()).collect();
                 let bytes = multi_line_string(&rings);
-                answered(Entry::Rings(mode, 0, *polygon), input) == (256 * bytes.len() as u64, Some(bytes))
+                let room = answered(Entry::RingRoom(mode, 0, *polygon), input);
+                room == (256 * bytes.len() as u64, Some(Vec::new()))
+                    && answered(Entry::Rings(mode, 0, *polygon), input) == (room.0, Some(bytes))
             }
             Outcome::Holds(number, sheet) => {
                 let numbers = whole(Entry::Numbers, sheet).unwrap().bytes;
@@ -351,6 +353,30 @@ mod tests {
                     "{name}"
                 );
                 assert!(3 * count <= sides.item, "{name}");
+            }
+        }
+    }
+
+    /// The room told for rings is the length of their bytes, at most 9 + 16 S + 25 (S / 3) for S sides, since a ring has three or more; and its refusals are those
+    /// of the boundary entry. Lent so many bytes the rings are never refused 40, and lent one less they are.
+    #[test]
+    fn a_ring_room_is_the_length_of_the_rings() {
+        for (name, input) in sheets() {
+            for (mode, way, polygon) in
+                [(0, 0, 1), (0, 1, 2), (1, 0, 1), (0, 2, 1), (0, 2, 0), (7, 0, 1), (0, 0, u32::MAX)]
+            {
+                let sides = whole(Entry::BoundaryBy(mode, way, polygon), &input);
+                let room = whole(Entry::RingRoom(mode, way, polygon), &input);
+                assert_eq!(room.as_ref().err(), sides.as_ref().err(), "{name}");
+                let (Ok(sides), Ok(room)) = (sides, room) else { continue };
+                let rings = |room: u64| answer(Entry::Rings(mode, way, polygon), &input, room as usize);
+                let (packed, bytes) = rings(room.item);
+                let bytes = bytes.expect("the room is enough");
+                assert_eq!((packed, bytes.len() as u64, room.bytes), (256 * room.item, room.item, vec![]), "{name}");
+                let count = u64::from(u32::from_le_bytes(bytes[5..9].try_into().unwrap()));
+                assert!(3 * count <= sides.item && room.item == 9 + 16 * sides.item + 25 * count, "{name}");
+                assert_eq!(rings(room.item - 1), (40, None), "{name}");
+                assert_eq!(rings(9 + 16 * sides.item + 25 * (sides.item / 3)), (packed, Some(bytes)), "{name}");
             }
         }
     }

@@ -38,6 +38,8 @@ pub enum Entry {
     BoundaryBy(u32, u32, u32),
     /// The boundary sides joined into closed rings, in the mode and the way of these numbers, asked for the polygon of the third.
     Rings(u32, u32, u32),
+    /// How many bytes the closed rings have, asked as they are; no bytes are lent.
+    RingRoom(u32, u32, u32),
     /// The printed listing in the mode and the way of these numbers, which answers no refusal but 40.
     ListingBy(u32, u32),
     /// The owner after repair at a point, in the mode and the way of these numbers, by x and y; no bytes are lent.
@@ -84,7 +86,7 @@ impl Lent {
 /// What an entry would write if enough bytes were lent, and the item of its success.
 #[derive(Clone, PartialEq, Eq, Debug)]
 pub struct Success {
-    /// The number of triangles, of polygons, of sides, or of bytes; of a point its owner.
+    /// The number of triangles, of polygons, of sides, or of bytes; of a point its owner, of a ring room the bytes of the rings.
     pub item: u64,
     /// The bytes written at the front of the lent ones.
     pub bytes: Vec<u8>,
@@ -158,6 +160,7 @@ impl<'a> Input<'a> {
             Entry::OwnersBy(mode, way) => owners(self.judged_by(mode)?, way),
             Entry::BoundaryBy(mode, way, asked) => boundary(self.judged_by(mode)?, way, asked),
             Entry::Rings(mode, way, asked) => rings_of(self.judged_by(mode)?, way, asked),
+            Entry::RingRoom(mode, way, asked) => ring_room(self.judged_by(mode)?, way, asked),
             Entry::ListingBy(mode, way) => Ok(counted(listing::of(self.judged_by(mode), way).into_bytes())),
             Entry::At(mode, way, x, y) => at(self.judged_by(mode)?, way, x, y),
             Entry::Index(mode) => self.index(mode).map(counted),
@@ -290,6 +293,13 @@ fn sides_of(judged: &Judged, way: u32, asked: u32) -> Result<Vec<Side>, Refusal>
 
 fn rings_of(judged: &Judged, way: u32, asked: u32) -> Result<Success, Refusal> {
     Ok(counted(rings::multi_line_string(&rings::rings(&sides_of(judged, way, asked)?))))
+}
+
+/// 9 bytes, 16 for each boundary side, and 25 for each ring. There is no 40.
+fn ring_room(judged: &Judged, way: u32, asked: u32) -> Result<Success, Refusal> {
+    let sides = sides_of(judged, way, asked)?;
+    let rings = rings::rings(&sides).len();
+    Ok(Success { item: 9 + 16 * sides.len() as u64 + 25 * rings as u64, bytes: Vec::new() })
 }
 
 fn boundary(judged: &Judged, way: u32, asked: u32) -> Result<Success, Refusal> {

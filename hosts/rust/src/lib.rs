@@ -27,6 +27,7 @@ extern "C" {
     fn sheet_rings(sheet: *const u8, sheet_len: usize, mode: u32, way: u32, polygon: u32, out: *mut u8, out_len: usize) -> u64;
     fn sheet_listing_by(sheet: *const u8, sheet_len: usize, mode: u32, way: u32, out: *mut u8, out_len: usize) -> u64;
     fn sheet_write_blob(numbers: *const u8, numbers_len: usize, out: *mut u8, out_len: usize) -> u64;
+    fn sheet_ring_room(sheet: *const u8, sheet_len: usize, mode: u32, way: u32, polygon: u32) -> u64;
     fn sheet_at(sheet: *const u8, sheet_len: usize, mode: u32, way: u32, x: i32, y: i32) -> u64;
     fn sheet_index(sheet: *const u8, sheet_len: usize, mode: u32, out: *mut u8, out_len: usize) -> u64;
     fn sheet_owner_sets_indexed(
@@ -282,6 +283,10 @@ pub mod lent {
     pub fn write_blob(numbers: &[u8], out: &mut [u8]) -> Result<u64, Refusal> {
         call(out, |p, n| unsafe { sheet_write_blob(numbers.as_ptr(), numbers.len(), p, n) })
     }
+    /// How many bytes [`rings`] writes for the same sheet and numbers, as the item. No bytes are lent.
+    pub fn ring_room(sheet: &[u8], mode: u32, way: u32, polygon: u32) -> Result<u64, Refusal> {
+        unpacked(unsafe { sheet_ring_room(sheet.as_ptr(), sheet.len(), mode, way, polygon) })
+    }
     /// The owner at a point after repair, in the mode and the way of these numbers, as the item. No bytes are lent.
     pub fn at(sheet: &[u8], mode: u32, way: u32, x: i32, y: i32) -> Result<u64, Refusal> {
         unpacked(unsafe { sheet_at(sheet.as_ptr(), sheet.len(), mode, way, x, y) })
@@ -485,6 +490,17 @@ pub fn rings_by(sheet: &[u8], mode: Mode, way: Way, polygon: u32) -> Result<Vec<
 /// [`rings_by`] in the present mode, by priority.
 pub fn rings(sheet: &[u8], polygon: u32) -> Result<Vec<u8>, Refusal> {
     rings_by(sheet, Mode::Present, Way::Priority, polygon)
+}
+
+/// How many bytes the rings of a polygon have, in a mode and a way: 9, 16 for each boundary side and 25 for each ring, of which each has three sides or more. It is for
+/// who lends the bytes, to [`lent::rings`], and takes as long as finding the rings does.
+pub fn ring_room_by(sheet: &[u8], mode: Mode, way: Way, polygon: u32) -> Result<usize, Refusal> {
+    lent::ring_room(sheet, mode as u32, way as u32, polygon).map(|room| room as usize)
+}
+
+/// [`ring_room_by`] in the present mode, by priority.
+pub fn ring_room(sheet: &[u8], polygon: u32) -> Result<usize, Refusal> {
+    ring_room_by(sheet, Mode::Present, Way::Priority, polygon)
 }
 
 /// The index of a sheet's table, to be kept beside the sheet: for each triangle and side the number of the triangle with the reversed side, 0 for none, as

@@ -1,6 +1,6 @@
 //! The safe functions on the example sheets, whose listings are stored beside them.
-use sheets::{areas, at, at_by, boundary, lent, listing, numbers, owner_sets, owners, position, rings, rings_by, verdict, write, write_blob};
-use sheets::{areas_by, boundary_by, listing_by, numbers_by, owner_sets_by, owners_by, position_by, verdict_by};
+use sheets::{areas, at, at_by, boundary, lent, listing, numbers, owner_sets, owners, position, ring_room, ring_room_by, rings, rings_by, verdict};
+use sheets::{areas_by, boundary_by, listing_by, numbers_by, owner_sets_by, owners_by, position_by, verdict_by, write, write_blob};
 use sheets::{Mode, Position, Refusal, Verdict, Way};
 
 fn example(name: &str) -> Vec<u8> {
@@ -36,6 +36,42 @@ fn boundary_sides_are_joined_into_a_closed_ring() {
     assert_eq!(rings(&sheet, 1), Ok(wanted));
     assert_eq!(rings_by(&sheet, Mode::Older, Way::Longest, 1), rings(&sheet, 1));
     assert_eq!(rings(&sheet, 3), Err(Refusal { code: 41, item: 0 }));
+}
+
+#[test]
+fn rings_need_exactly_the_room_that_is_told() {
+    for name in ["strip.wkb", "clean.wkb", "nested.wkb", "no-polygons.wkb", "not-carried.wkb", "no-ground.wkb"] {
+        let sheet = example(name);
+        for (mode, way, polygon) in (0..5).flat_map(|mode| (0..3).flat_map(move |way| [0, 1, 2, 3, u32::MAX].map(|polygon| (mode, way, polygon)))) {
+            let room = lent::ring_room(&sheet, mode, way, polygon);
+            let mut out = vec![9; sheets::RINGS_ROOM];
+            assert_eq!(room, lent::rings(&sheet, mode, way, polygon, &mut out));
+            let mut sides = vec![0; sheets::BOUNDARY_ROOM];
+            let sides = lent::boundary_by(&sheet, mode, way, polygon, &mut sides);
+            assert_eq!(room.err(), sides.err());
+            let (Ok(room), Ok(sides)) = (room, sides) else { continue };
+            let rings = u64::from(u32::from_le_bytes(out[5..9].try_into().unwrap()));
+            assert_eq!(room, 9 + 16 * sides + 25 * rings);
+            assert!(room <= 9 + 16 * sides + 25 * (sides / 3));
+            let mut lent = vec![9; room as usize];
+            assert_eq!(lent::rings(&sheet, mode, way, polygon, &mut lent[1..]), Err(Refusal { code: 40, item: 0 }));
+            assert!(lent.iter().all(|byte| *byte == 9));
+            assert_eq!(lent::rings(&sheet, mode, way, polygon, &mut lent), Ok(room));
+            assert_eq!(lent, out[..room as usize]);
+        }
+    }
+    assert_eq!(sheets::RINGS_ROOM, 9 + 16 * 3_072 + 25 * (3_072 / 3));
+}
+
+#[test]
+fn a_ring_room_is_the_length_of_the_rings() {
+    let sheet = example("strip.wkb");
+    assert_eq!(ring_room(&sheet, 1), Ok(9 + 16 * 6 + 25));
+    assert_eq!(ring_room(&sheet, 1), rings(&sheet, 1).map(|bytes| bytes.len()));
+    assert_eq!(ring_room_by(&sheet, Mode::Older, Way::Longest, 2), rings(&sheet, 2).map(|bytes| bytes.len()));
+    assert_eq!(ring_room_by(&sheet, Mode::Blob, Way::Priority, 1), Err(Refusal { code: 50, item: 0 }));
+    assert_eq!(ring_room(&sheet, 3), Err(Refusal { code: 41, item: 0 }));
+    assert_eq!(ring_room(&sheet[..819], 1), Err(Refusal { code: 1, item: 3 }));
 }
 
 #[test]
@@ -233,6 +269,7 @@ fn modes_and_ways_that_are_not_known_are_refused() {
         assert_eq!(lent::boundary_by(&sheet, 0, number, 3, &mut lent), refused(41));
         assert_eq!(lent::rings(&sheet, 0, number, 1, &mut lent), refused(54));
         assert_eq!(lent::rings(&sheet, number, 0, 1, &mut lent), refused(57));
+        assert_eq!([lent::ring_room(&sheet, 0, number, 1), lent::ring_room(&sheet, number, 0, 1)], [refused(54), refused(57)]);
         assert_eq!(lent::owners_by(&example("no-polygons.wkb"), 0, number, &mut lent), refused(54));
         assert_eq!(lent, [9; 200]);
         let bytes = lent::listing_by(&sheet, 0, number, &mut lent).unwrap() as usize;

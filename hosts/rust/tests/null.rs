@@ -91,17 +91,20 @@ fn every_entry_answers_null_pointers_with_length_0() {
         assert_eq!((name, answers), (name, &[1, 53, 40]));
     }
     let names = answers.iter().chain(&with_index).map(|(name, _)| name.to_string());
-    assert_eq!(names.chain(["sheet_at".to_string()]).collect::<Vec<_>>(), declared());
+    assert_eq!(names.chain(["sheet_ring_room", "sheet_at"].map(String::from)).collect::<Vec<_>>(), declared());
 }
 
-/// The entry that is lent no bytes.
+/// The entries that are lent no bytes.
 #[test]
-fn a_point_of_a_null_pointer_is_answered() {
+fn a_point_and_a_ring_room_of_a_null_pointer_are_answered() {
     extern "C" {
+        fn sheet_ring_room(sheet: *const u8, size: usize, mode: u32, way: u32, polygon: u32) -> u64;
         fn sheet_at(sheet: *const u8, size: usize, mode: u32, way: u32, x: i32, y: i32) -> u64;
     }
     // SAFETY: no byte is read through a null pointer with length 0.
     assert_eq!(unsafe { [sheet_at(null(), 0, 0, 0, 0, 0), sheet_at(null(), 0, 9, 0, -1, 1)] }, [1, 57]);
+    // SAFETY: as above.
+    assert_eq!(unsafe { [sheet_ring_room(null(), 0, 0, 0, 1), sheet_ring_room(null(), 0, 9, 0, 1)] }, [1, 57]);
 }
 
 #[test]

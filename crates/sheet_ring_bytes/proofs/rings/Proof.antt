@@ -16,9 +16,10 @@ use Rattle.lent_little.specs.Held.{SideIn}
 use Rattle.owners_marks.specs.Sets.{ownersOf}
 use Rattle.repair.specs.Ways.{repairedBy}
 use Rattle.repair_longest.specs.Held.{lengthsHeld}
-use Rattle.sheet_ring_bytes.specs.Lines.{lineBytes, linesOutcome, roomOf}
+use Rattle.wkb_lines.specs.Room.{roomOf}
+use Rattle.sheet_ring_bytes.specs.Lines.{lineBytes, linesOutcome}
 use Rattle.sheet_ring_bytes.specs.Held.{lineHeld, polygonRings, ringsOutcome, ringsIn, Standing, JoinedBy}
-use Rattle.sheet_ring_bytes.proofs.Standing.{cut-again, rising, held-room, standing-many, rings-in}
+use Rattle.sheet_ring_bytes.proofs.Standing.{cut-again, rising, standing-room, rings-in}
 use Rattle.sheet_ring_bytes.proofs.rings.Statement.{statement}
 use Rattle.sheet_ring_bytes.proofs.rings.Tie as tie
 
@@ -78,7 +79,7 @@ outcome : (c : tie.After-k) → answer (entry c) ≡ bytes (length (text c)) (te
 outcome c = ap (λ a. andThen a (λ l. linesOutcome (map (lineHeld (now (entry c .args .numbers))) (rings-of (entry c) l)))) (joined c .1)
 
 size : (c : tie.After-k) → length (text c) ≡ roomOf (k c) (r c)
-size c = let m = standing-many (joined c .2) in held-room (now (entry c .args .numbers)) (rings c) (begun c) ∙ ap₂ roomOf (m .0) (m .1)
+size c = standing-room (now (entry c .args .numbers)) (begun c) (joined c .2)
 
 -- ---- the needs
 put-lines-requires : tie.Need-put-lines-requires

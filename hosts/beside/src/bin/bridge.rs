@@ -5,7 +5,7 @@ use beside::call;
 use independent::bridge::{before_call, with_point, Function};
 use sheets::{areas, at, at_by, boundary, listing, numbers, owner_sets, owners, position, verdict, write, write_blob};
 use sheets::{areas_by, boundary_by, listing_by, numbers_by, owner_sets_by, owners_by, position_by, verdict_by};
-use sheets::{boundary_indexed, index, index_by, owner_sets_indexed, owners_indexed, rings, rings_by, rings_indexed};
+use sheets::{boundary_indexed, index, index_by, owner_sets_indexed, owners_indexed, ring_room, ring_room_by, rings, rings_by, rings_indexed};
 use sheets::{Mode, Point, Position, Refusal, Sheet, Verdict, Way};
 use std::io::{BufRead, BufReader, Read, Write};
 
@@ -108,6 +108,8 @@ fn typed(function: u8, [mode_number, way_number, polygon]: [u32; 3], point: Poin
         17..=19 | 21 => typed_indexed(function, parted(input), mode, way, polygon),
         20 if mode == Mode::Present && way == Way::Priority => rings(input, polygon).map(counted),
         20 => rings_by(input, mode, way, polygon).map(counted),
+        22 if mode == Mode::Present && way == Way::Priority => ring_room(input, polygon).map(of_room),
+        22 => ring_room_by(input, mode, way, polygon).map(of_room),
         function => panic!("there is no function {function}"),
     }
 }
@@ -157,6 +159,10 @@ fn of_areas(areas: Vec<i64>) -> (u64, Vec<u8>) {
 
 fn of_owner(owner: u8) -> (u64, Vec<u8>) {
     (owner.into(), Vec::new())
+}
+
+fn of_room(room: usize) -> (u64, Vec<u8>) {
+    (room as u64, Vec::new())
 }
 
 fn of_sides(sides: Vec<(Point, Point)>) -> (u64, Vec<u8>) {

@@ -1,7 +1,7 @@
 //! `vectors FILE [BRIDGE]`: compares every `call` and `listing` line of a vectors file with the independent answers, or
 //! with those of the library behind a bridge. An entry is named short (`sets`, and the polygon asked for as a number) or as
 //! it is exported (`sheet_owner_sets`, and what is asked as NAME=NUMBER,.. of `mode`, `way` and `polygon`, or `-`; an index as
-//! `index=` and its bytes). Prints each difference and last `N passed, M failed`; the exit status is 1 if any failed.
+//! `index=` and its bytes); the room is a number, `-` where no bytes are lent. Prints each difference and last `N passed, M failed`; the exit status is 1 if any failed.
 
 use independent::bridge::{start, Call, Function, Room};
 use independent::entries::{fit, Entry, Input, Lent, Success};
@@ -120,6 +120,7 @@ fn entry(name: &str, asked: &str) -> Entry {
         "sheet_owners_by" => Entry::OwnersBy(mode(), way()),
         "sheet_boundary_by" => Entry::BoundaryBy(mode(), way(), polygon()),
         "sheet_rings" => Entry::Rings(mode(), way(), polygon()),
+        "sheet_ring_room" => Entry::RingRoom(mode(), way(), polygon()),
         "sheet_listing_by" => Entry::ListingBy(mode(), way()),
         "sheet_write_blob" => Entry::WriteBlob,
         "sheet_index" => Entry::Index(mode()),
@@ -138,8 +139,8 @@ fn call(input: &str, name: &str, asked: &str, room: &str, packed: &str, output: 
         Some(hex) => Ok(Success { item: packed / 256, bytes: unhex(hex) }),
         None => Err(Refusal::new((packed % 256) as u8, packed / 256)),
     };
-    let room = Room::Lent(room.parse().expect("a number of lent bytes"));
-    Call { input: input.to_string(), function: Function::Entry(entry(name, asked)), room, expected }
+    let room = if room == "-" { 0 } else { room.parse().expect("a number of lent bytes") };
+    Call { input: input.to_string(), function: Function::Entry(entry(name, asked)), room: Room::Lent(room), expected }
 }
 
 /// The call of a `listing` line, with more room than it needs.

@@ -2,9 +2,9 @@
 //!
 //! A frame is a byte for the entry (0 numbers, 1 write, 2 owner sets, 3 owners, 4 boundary, 5 listing, 6 position; 7 numbers, 8
 //! owner sets, 9 owners, 10 boundary, 11 listing by a mode and a way; 12 write blob; 13
-//! areas; 14 at a point; 15 index; 16 owner sets, 17 owners, 18 boundary with an index; 19 rings, 20 rings with an index), u32 length of the input, u32 number of lent
+//! areas; 14 at a point; 15 index; 16 owner sets, 17 owners, 18 boundary with an index; 19 rings, 20 rings with an index; 21 ring room), u32 length of the input, u32 number of lent
 //! bytes, and the input, little-endian; before a sheet that the boundary entry takes stands the polygon's number, a u32, before one that the
-//! position entry, the areas entry and the index entry take the mode, a u32, before one that those from 7 to 11 and 19 take mode, way and polygon, three u32, before one that is
+//! position entry, the areas entry and the index entry take the mode, a u32, before one that those from 7 to 11, 19 and 21 take mode, way and polygon, three u32, before one that is
 //! asked at a point mode, way, x and y, and before one that those from 16 to 18 and 20 take mode, way, polygon, the length of the index, a u32, and the index. A line has
 //! the packed answer, a blank, and a checksum of all lent bytes after the call, each 170 before it.
 //!
@@ -144,6 +144,7 @@ fn calls() -> Vec<Call> {
         }));
     }
     calls.extend(at_points());
+    calls.extend(ring_rooms());
     let by = [(0, 0, 1), (0, 1, 1), (7, 0, 1), (u32::MAX, 2, 1), (0, 2, 1), (1, u32::MAX, 3)].into_iter().flat_map(by);
     let on_strip = asked.into_iter().chain(modes).chain(by);
     calls.extend(on_strip.map(|entry| Call { entry, input: strip.clone(), room: 200 }));
@@ -168,6 +169,25 @@ fn at_points() -> Vec<Call> {
     let in_ways =
         named(&IN_WAYS[1..2]).flat_map(|case| [0, 1].map(|way| call(Entry::At(0, way, 3, 1), &case.input, 9)));
     on_strip.chain(by).chain(sheets).chain(blobs).chain(in_ways).collect()
+}
+
+/// The ring rooms asked for: on the strip sheet of both polygons and of others, in modes and ways known and not; on the shortest case of each code, in the present
+/// mode, and of blobs of the codes that they alone have; in both ways on a case of way 1, and of both polygons on those of rings.
+fn ring_rooms() -> Vec<Call> {
+    let call = |entry, input: &[u8], room| Call { entry, input: input.to_vec(), room };
+    let strip = cases::named("strip");
+    let asked = [(0, 0, 1), (0, 0, 2), (0, 0, 0), (0, 0, 3), (0, 0, 257), (0, 0, u32::MAX)];
+    let by = [(1, 0, 1), (0, 1, 1), (7, 0, 1), (u32::MAX, 2, 1), (0, 2, 1), (0, u32::MAX, 3)];
+    let of = |(mode, way, polygon): (u32, u32, u32)| Entry::RingRoom(mode, way, polygon);
+    let on_strip =
+        asked.map(|asked| call(of(asked), &strip, 0)).into_iter().chain(by.map(|by| call(of(by), &strip, 9)));
+    let of_codes = shortest(of((0, 0, 1)), Case::is_sheet).into_values();
+    let sheets = of_codes.map(|case| call(of((0, 0, 1)), &case.input, 9));
+    let of_blobs = shortest(of((2, 0, 1)), Case::is_blob).into_iter().filter(|(code, _)| (50..=52).contains(code));
+    let blobs = of_blobs.map(|(_, case)| call(of((2, 0, 1)), &case.input, 9));
+    let in_ways = named(&IN_WAYS[1..2]).flat_map(|case| [0, 1].map(|way| call(of((0, way, 1)), &case.input, 9)));
+    let rings = named(&WITH_RINGS).flat_map(|case| [1, 2].map(|polygon| call(of((0, 0, polygon)), &case.input, 0)));
+    on_strip.chain(sheets).chain(blobs).chain(in_ways).chain(rings).collect()
 }
 
 /// The entries in this mode and this way, asked for this polygon.
@@ -284,6 +304,7 @@ impl Call {
             Entry::BoundaryIndexed(_, mode, way, polygon) => (18, vec![mode, way, polygon]),
             Entry::Rings(mode, way, polygon) => (19, vec![mode, way, polygon]),
             Entry::RingsIndexed(_, mode, way, polygon) => (20, vec![mode, way, polygon]),
+            Entry::RingRoom(mode, way, polygon) => (21, vec![mode, way, polygon]),
         };
         let mut asked: Vec<u8> = asked.iter().flat_map(|number| number.to_le_bytes()).collect();
         if let Some((lent, mode)) = Function::Entry(self.entry).lent() {
@@ -348,6 +369,7 @@ mod tests {
         let repaired =
             [by(&by(&owners, &blobs), &[54]), by(&by(&boundary, &blobs), &[54]), vec![0, 40], vec![0, 40, 42]];
         let at = by(&by(&owners[..9], &owners[10..]), &[50, 51, 52, 54, 55, 57]);
+        let ring_room = repaired[1].iter().copied().filter(|code| *code != 40).collect();
         let index = by(&by(&reading, &blobs), &[10, 11, 12]);
         let indexed =
             [by(&by(&judging, &blobs), &[53]), vec![0, 12, 20, 40, 53, 54, 57], vec![0, 12, 20, 40, 41, 53, 54, 57]];
@@ -356,7 +378,7 @@ mod tests {
             &repaired,
             &[by(&reading, &blobs), at, index],
             &indexed,
-            &[repaired[1].clone(), indexed[2].clone()],
+            &[repaired[1].clone(), indexed[2].clone(), ring_room],
         ]
         .concat();
         let wanted: Vec<Vec<u8>> = without.iter().map(|codes| codes.to_vec()).chain(in_modes).collect();
@@ -369,7 +391,7 @@ mod tests {
     #[test]
     fn every_room_of_every_entry_is_stored() {
         let tried = tried();
-        for entry in 0..21 {
+        for entry in 0..22 {
             assert!(tried.contains(&(entry, 0, Some(0))), "exact room for {entry}");
             assert!(tried.contains(&(entry, 0, Some(9))), "lent bytes past the answer for {entry}");
         }
@@ -379,14 +401,15 @@ mod tests {
         let of = |less: fn(usize) -> usize| -> BTreeSet<u8> {
             calls().iter().filter(|call| short(call, less)).map(|call| call.frame()[0]).collect()
         };
-        let without = |entry: u8| (0..21).filter(move |&other| other != entry).collect();
-        assert_eq!((of(|length| length.wrapping_sub(1)), of(|_| 0)), (without(14), (0..21).collect()));
+        let lent_none = [14, 21];
+        let lent = (0..22).filter(|entry| !lent_none.contains(entry)).collect();
+        assert_eq!((of(|length| length.wrapping_sub(1)), of(|_| 0)), (lent, (0..22).collect()));
     }
 
     #[test]
     fn the_stored_input_is_small() {
         let (frames, lines) = frames_and_lines();
-        assert!(frames.len() < 560_000, "{} bytes", frames.len());
+        assert!(frames.len() < 600_000, "{} bytes", frames.len());
         assert!(lines.split(|byte| *byte == b'\n').count() > 200);
     }
 }

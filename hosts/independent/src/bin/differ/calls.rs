@@ -58,18 +58,21 @@ impl Calls {
     }
 
     /// The rooms of a call, every kind or one, each with the answer that is right with it; or a wrapper's own. A position has
-    /// room enough on every input, and a point none.
+    /// room enough on every input, a point and a ring room none, and rings have on every input just the room that they need, and one byte less.
     fn with_rooms(&self, function: Function, number: u64, every: bool, answer: Answer) -> Vec<(Room, Answer)> {
         if self.wrapped {
             return vec![(Room::Own, answer)];
         }
-        if matches!(function, Function::Entry(Entry::At(..))) {
+        if matches!(function, Function::Entry(Entry::At(..) | Entry::RingRoom(..))) {
             return vec![(Room::Lent(0), answer)];
         }
-        let [exact, ..] = every_room(&answer);
+        let [exact, short, ..] = every_room(&answer);
         let mut rooms = if every { every_room(&answer).to_vec() } else { vec![room(number, &answer)] };
         if matches!(function, Function::Entry(Entry::Position(_))) && rooms[0] < exact {
             rooms.push(exact);
+        }
+        if matches!(function, Function::Entry(Entry::Rings(..))) && answer.is_ok() {
+            rooms.extend([exact, short].into_iter().filter(|room| !rooms.contains(room)).collect::<Vec<usize>>());
         }
         rooms.into_iter().map(|room| (Room::Lent(room), fit(answer.clone(), room))).collect()
     }
@@ -95,6 +98,7 @@ impl Calls {
                     Entry::OwnersBy(0, 1),
                     Entry::BoundaryBy(0, 1, asked[0]),
                     Entry::Rings(0, 1, asked[0]),
+                    Entry::RingRoom(0, 1, asked[0]),
                     Entry::ListingBy(0, 1),
                 ];
                 let in_mode_0 = vec![Entry::Position(0), Entry::Areas(0), Entry::WriteBlob];
@@ -162,6 +166,7 @@ impl Calls {
                 let some = if known { polygons } else { &polygons[..3] };
                 entries.extend(some.iter().map(|polygon| Entry::BoundaryBy(mode, way, *polygon)));
                 entries.extend(some.iter().map(|polygon| Entry::Rings(mode, way, *polygon)));
+                entries.extend(some.iter().map(|polygon| Entry::RingRoom(mode, way, *polygon)));
             }
         }
         entries
@@ -197,11 +202,12 @@ impl Calls {
     /// One of the entries that judge, in this mode.
     fn one(&self, place: u64, purpose: u64, mode: u32, polygon: u32) -> Entry {
         let way = self.chosen(place, 102, &WAYS, &NO_WAYS);
-        match mixed(place, purpose) % 5 {
+        match mixed(place, purpose) % 6 {
             0 => Entry::OwnerSetsBy(mode),
             1 => Entry::OwnersBy(mode, way),
             2 => Entry::BoundaryBy(mode, way, polygon),
             3 => Entry::Rings(mode, way, polygon),
+            4 => Entry::RingRoom(mode, way, polygon),
             _ => Entry::ListingBy(mode, way),
         }
     }
@@ -246,7 +252,8 @@ impl Calls {
 fn in_mode(mode: u32) -> Vec<Entry> {
     let read = [Entry::Position(mode), Entry::NumbersBy(mode), Entry::Areas(mode), Entry::OwnerSetsBy(mode)];
     let repaired = [Entry::OwnersBy(mode, 0), Entry::BoundaryBy(mode, 0, 1), Entry::Rings(mode, 0, 1)];
-    let judged = [&repaired[..], &[Entry::ListingBy(mode, 0), Entry::Index(mode)]].concat();
+    let judged =
+        [&repaired[..], &[Entry::RingRoom(mode, 0, 1), Entry::ListingBy(mode, 0), Entry::Index(mode)]].concat();
     [&read[..], &judged, &with_index(Lent::Own, mode, 0, 1)].concat()
 }
 
