@@ -631,9 +631,12 @@ def repaired_folder(programs, folder, mode, way, every):
         over = [path for path, said in zip(paths, printed) if ": over the limits: " in said]
         wanted = [said if path not in over else got for path, said, got in zip(paths, lines, printed)]
         passed = len(files_of(folder, ENDS[1 - mode // 2]))
-        outcomes = [equal(what, (ended, printed), (max(map(repair_kind, wanted)), wanted + [repair_summary(wanted, passed)]))]
+        outcomes = [equal(what, (ended, printed), (max(map(repair_kind, wanted), default=0), wanted + [repair_summary(wanted, passed)]))]
         made = {path: os.path.join(out, "made", os.path.basename(path)) for path, said in zip(paths, wanted) if repair_kind(said) < 2}
-        outcomes.append(equal(what + ", files", sorted(os.listdir(os.path.join(out, "made"))), sorted(map(os.path.basename, made.values()))))
+        there = os.listdir(os.path.join(out, "made")) if os.path.isdir(os.path.join(out, "made")) else []
+        outcomes.append(equal(what + ", files", sorted(there), sorted(map(os.path.basename, made.values()))))
+        if not all(outcomes):  # there is nothing to read
+            return outcomes
         present = 2 * (mode // 2)
         answers = dict(zip(made, independent.answers(list(made.values()), present)))
         outcomes.append(equal(what + ", clean", {verdict for verdict, _ in answers.values()}, {"clean"}))
