@@ -1,7 +1,7 @@
 #!/usr/bin/env python3
 """The README's commands as a newcomer gives them, in a fresh clone of this tree with its changes, from a state without target/. 'N passed, M failed'
 
-    python3 tests/commands.py    after `rt ci`, whose target/ the clone is given in the end, so that nothing is proved twice
+    python3 tests/commands.py    after `rt ci`; what the listing's program is built from here is given to the clone in the end, so that nothing is proved twice
 """
 import glob
 import os
@@ -19,7 +19,7 @@ ROOT = os.path.dirname(os.path.dirname(os.path.abspath(__file__)))
 CUT = 65_536
 SAID_IF_CUT = "sheetcheck: the input is longer than 65,536 bytes, and only these were read"
 SAID_IF_QUICK = "examples/listing: compiled without proof: nothing of the program was proved in this run"
-PROVED = re.compile(r"\w+ proved \(\d+ s\), \d+ left$")
+PROVED = re.compile(r"\w+ proved, \d+ left$")
 
 
 def clone(folder):
@@ -77,11 +77,16 @@ def first_crate(folder):
 
 
 def proved(folder):
-    """With what the gate has proved: the stored listings, and no crate is proved again."""
-    for part in ("rlib", "stamp", "bin"):
-        shutil.copytree(os.path.join(ROOT, "target", part), os.path.join(folder, "target", part), symlinks=True)
+    """With what is proved and built here: the stored listings, and no crate is proved again."""
     paths, printed = sheets(folder)
-    return [run(folder, "examples/listing", *paths) == (0, printed, [SAID_IF_CUT])]
+    status, listing, said = run(ROOT, "examples/listing", *paths)
+    if status:
+        print("\n".join(said))
+    for made in glob.glob(os.path.join(ROOT, "crates", "*", "out")):
+        given = os.path.join(folder, os.path.relpath(made, ROOT))
+        shutil.rmtree(given, ignore_errors=True)
+        shutil.copytree(made, given, symlinks=True)
+    return [(status, listing, said[-1:]) == (0, printed, [SAID_IF_CUT]), run(folder, "examples/listing", *paths) == (0, printed, [SAID_IF_CUT])]
 
 
 def unprivileged(words):
@@ -91,7 +96,7 @@ def unprivileged(words):
 
 def refused(folder, kit):
     """The gate on a machine that lacks the kit, or packages that its user can't install: one line that names them, and another status than 0."""
-    tools = os.path.join(folder, "tools")
+    tools = os.path.join(folder, "few tools")
     os.makedirs(tools)
     for name in ("bash", "basename", "dirname", "uname", "id", "apt-get", "setpriv"):
         os.symlink(shutil.which(name), os.path.join(tools, name))
@@ -104,7 +109,7 @@ def refused(folder, kit):
 
 
 def main():
-    kit = subprocess.run(["rt", "doc"], check=True, capture_output=True, text=True).stdout.rpartition("/docs/")[0]
+    kit = subprocess.run(["rt", "doc"], check=True, capture_output=True, text=True).stdout.rpartition("/")[0]
     with tempfile.TemporaryDirectory() as folder:
         os.chmod(folder, 0o755)
         clone(folder)

@@ -16,11 +16,12 @@ In crates.txt a line '# layer NAME: what it holds' heads the crates of a layer, 
     table: whole plane
     table_sides: whole_order table
     # layer reader: a program
-    reader: table_sides io libc
+    reader: table_sides
+    reader_c staticlib: table_sides
 
 The rules. A layer has one heading and some crate. A crate stands under a heading, and is named like its layer or begins with its name and '_'. It depends
-only on crates of earlier lines, so that nothing uses a later layer, and on the kit's libraries. Some file of it uses each crate that it depends on: by
-'Rattle·NAME.' or 'Rattle·NAME·' in definitions, contracts and proofs, by 'NAME::' or 'use NAME' in code.
+only on crates of earlier lines, so that nothing uses a later layer. Some file of it uses each crate that it depends on: by
+'Rattle.NAME.' in definitions, contracts and proofs, by 'NAME::' or 'use NAME' in code. A static library has the word staticlib behind its name.
 """
 import argparse
 import glob
@@ -34,7 +35,6 @@ from tally import tally
 ROOT = os.path.dirname(os.path.dirname(os.path.abspath(__file__)))
 HEADING = re.compile(r"# layer (\w+): \S")
 COMMENT = re.compile(r"//.*|(?:^|(?<=\s))--.*", re.M)
-KIT = ("bytes", "check", "io", "libc", "os")
 OLD_PICTURE = "README.md: the picture of the layers is not up to date (tests/layers.py --write)"
 BEGIN, END = "<!-- layers: drawn from crates.txt by tests/layers.py --write -->\n", "<!-- end of layers -->\n"
 
@@ -54,7 +54,7 @@ def listed(root):
             layers.append(heading[1] if heading else line)
         name, colon, depends = line.split("#")[0].partition(":")
         if colon:
-            crates.append((layers[-1] if layers else "", name.strip(), depends.split()))
+            crates.append((layers[-1] if layers else "", name.split()[0], depends.split()))
     return layers, crates
 
 
@@ -68,7 +68,7 @@ def files_of(root, crate):
 def uses(files, name):
     """Do the files of a crate use the crate of that name?"""
     everything, code = files
-    return bool(re.search(r"Rattle·%s[.·]" % name, everything) or re.search(r"(?<![\w:])%s\s*::|\buse\s+%s\b" % (name, name), code))
+    return bool(re.search(r"Rattle\.%s\." % name, everything) or re.search(r"(?<![\w:])%s\s*::|\buse\s+%s\b" % (name, name), code))
 
 
 def rules(root, layers, crates):
@@ -83,8 +83,6 @@ def rules(root, layers, crates):
         yield name == layer or name.startswith(layer + "_"), "%s is not named like its layer, '%s'" % (name, layer)
         files = files_of(root, name)
         for other in depends:
-            if other in KIT:
-                continue
             yield other in earlier, "%s depends on %s, which stands on no earlier line" % (name, other)
             yield uses(files, other), "%s depends on %s, and no file of it uses that" % (name, other)
         earlier.add(name)
@@ -146,7 +144,7 @@ def write(root):
 # ---- the sample with its picture, and what is planted in it
 PICTURE = """```mermaid
 flowchart TD
-    reader["reader"]
+    reader["reader<br/>c"]
     table["table<br/>sides"]
     plane["plane"]
     whole["whole<br/>order"]
@@ -159,11 +157,12 @@ SAMPLE = {
     "crates.txt": "".join(line[4:] + "\n" for line in __doc__.split("the last:\n\n")[1].split("\n\nThe rules")[0].split("\n")),
     "README.md": "# A sample\n" + BEGIN + PICTURE + END,
     "crates/whole/src/lib.rt": "",
-    "crates/whole_order/specs/Order.antt": "use Rattle·whole.specs.Sums.{sum}\n",
-    "crates/plane/proofs/Lib.antt": "use Rattle·whole·proofs.proofs.Tests.{by-equal}\n",
-    "crates/table/src/lib.rt": "use plane::Corner;\nghost use Rattle·whole.specs.Sums.{All};\n",
+    "crates/whole_order/specs/Order.antt": "use Rattle.whole.specs.Sums.{sum}\n",
+    "crates/plane/proofs/Lib.antt": "use Rattle.whole.proofs.Tests.{by_equal}\n",
+    "crates/table/src/lib.rt": "use plane::Corner;\nghost use Rattle.whole.specs.Sums.{All};\n",
     "crates/table_sides/src/lib.rt": "fn first() -> u32 {\n    table::first(whole_order::least())\n}\n",
     "crates/reader/src/main.rt": "fn main() {\n    table_sides::first();\n}\n",
+    "crates/reader_c/src/lib.rt": "pub extern \"C\" fn first() -> u32 {\n    table_sides::first()\n}\n",
 }
 # A file, a text of it, the text in its place, and what must be found wrong.
 FAULTS = [
@@ -178,7 +177,7 @@ FAULTS = [
     ("crates.txt", "reader: table_sides", "reader: table_sides paper", "reader depends on paper, which stands on no earlier line"),
     ("crates.txt", "reader: table_sides", "reader: table_sides table", "reader depends on table, and no file of it uses that"),
     ("crates/whole_order/specs/Order.antt", "use Rattle", "-- use Rattle", "whole_order depends on whole, and no file of it uses that"),
-    ("crates/whole_order/specs/Order.antt", "Rattle·whole.", "Rattle·whole_numbers.", "whole_order depends on whole, and no file of it uses that"),
+    ("crates/whole_order/specs/Order.antt", "Rattle.whole.", "Rattle.whole_numbers.", "whole_order depends on whole, and no file of it uses that"),
     ("crates/table/src/lib.rt", "use plane::", "use crate::plane::", "table depends on plane, and no file of it uses that"),
     ("crates.txt", "plane: whole\n", "plane: whole\nplane_exact:\n", OLD_PICTURE),
     ("README.md", "plane --> whole", "whole --> plane", OLD_PICTURE),

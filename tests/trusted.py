@@ -6,7 +6,7 @@
     python3 tests/trusted.py --check    'N passed, M failed': docs/TRUSTED.md is up to date, each file opens with its sentence, no statement uses a
                                         definition of proofs/, and no file of the list has a definition that no statement reaches
 
-A statement is the contract of an exported entry (crates/sheets/src/lib.rt) or the type of a public theorem of crates/demands/proofs.
+A statement is the contract of an exported entry (crates/sheets_c/src/lib.rt) or the type of a public theorem of crates/demands/proofs.
 """
 import os
 import re
@@ -18,7 +18,7 @@ ROOT = os.path.dirname(os.path.dirname(os.path.abspath(__file__)))
 LIST = os.path.join(ROOT, "docs", "TRUSTED.md")
 BEGIN, END = "<!-- the list: tests/trusted.py --write -->\n", "<!-- the end of the list -->\n"
 USE = re.compile(r"^(?:ghost )?use ([^\s;{}]+?)(?:\.\{([^}]*)\})?;?$", re.M)
-WORD = re.compile(r"[^\s(){}\[\],;⌜⌝]+")
+WORD = re.compile(r"[^\s(){}\[\],;]+")
 DECLARED = re.compile(r"^( *)(?:(?:abbrev|unfoldable) )?pub (?:(record|data) )?([^\s:]+)", re.M)
 
 
@@ -35,8 +35,8 @@ def folder(path):
 
 def place(module):
     """The file of a module of this repository, and None for one of the language's libraries. A type that code declares is in its src/."""
-    parts = re.fullmatch(r"Rattle·(\w+?)(?:·\w+)?\.(specs|proofs)\.(declared)?\.?(.*)", module)
-    if not parts:
+    parts = re.fullmatch(r"Rattle\.(\w+)\.(specs|proofs)\.(declared)?\.?(.*)", module)
+    if not parts or parts[1] == "std":
         return None
     crate, tree, declared, rest = parts.groups()
     return "crates/%s/src/lib.rt" % crate if declared else "crates/%s/%s/%s.antt" % (crate, tree, rest.replace(".", "/"))
@@ -116,8 +116,8 @@ def theorem_types(text):
 
 def statements():
     """Each source of statements with the text of its statements."""
-    entries = read("crates/sheets/src/lib.rt")
-    yield "crates/sheets/src/lib.rt", "\n".join(re.findall(r"extern \"C\".*?^\{", entries, flags=re.M | re.S))
+    entries = read("crates/sheets_c/src/lib.rt")
+    yield "crates/sheets_c/src/lib.rt", "\n".join(re.findall(r"extern \"C\".*?^\{", entries, flags=re.M | re.S))
     for path in public_modules():
         yield path, theorem_types(read(path))
 
@@ -135,7 +135,7 @@ def closure():
         todo += [(d, path) for d in source(path).used(text)]
     while todo:
         (path, name), by = todo.pop()
-        if by != path and not by.startswith("crates/demands/proofs") and by != "crates/sheets/src/lib.rt":
+        if by != path and not by.startswith("crates/demands/proofs") and by != "crates/sheets_c/src/lib.rt":
             uses.setdefault(by, set()).add(path)
         if (path, name) in reached:
             continue
@@ -149,7 +149,7 @@ def closure():
 
 def in_order(uses):
     """The files in an order in which each comes after what it uses; crates as crates.txt has them."""
-    crates = [line.split(":")[0] for line in read("crates.txt").splitlines() if ":" in line]
+    crates = [line.split(":")[0].split()[0] for line in read("crates.txt").splitlines() if ":" in line.split("#")[0]]
     out = []
 
     def visit(path):
@@ -186,7 +186,7 @@ def listing():
     types = {path: sorted(name for where, name in reached if where == path) for path in codes}
     declared = "; ".join("`%s` of %s" % ("`, `".join(n for n in types[path] if n[0].isupper()), path.split("/")[1]) for path in codes)
     rows.append("\nTypes that the code declares, in its src/lib.rt: %s." % declared)
-    others = [path for crate in sorted({line.split(":")[0] for line in read("crates.txt").splitlines() if ":" in line})
+    others = [path for crate in sorted({line.split(":")[0].split()[0] for line in read("crates.txt").splitlines() if ":" in line.split("#")[0]})
               if os.path.isdir(os.path.join(ROOT, "crates", crate, "specs")) for path in folder("crates/%s/specs" % crate) if path not in files]
     rows += ["\nStages of the code, which nobody has to believe: the functions' own contracts cite them, and the proofs lead from them to the files above.\n",
              "| File | What it says |", "|---|---|"]

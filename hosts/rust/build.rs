@@ -1,4 +1,4 @@
-// Links libsheets.a, which `rt staticlib sheets` makes in the repository. SHEETS_LIB_DIR names its folder where it is elsewhere.
+// Links libsheets.a, which `hosts/library` makes in the repository. SHEETS_LIB_DIR names its folder where it is elsewhere.
 use std::path::PathBuf;
 
 fn main() {
@@ -8,7 +8,7 @@ fn main() {
     println!("cargo:rerun-if-env-changed=SHEETS_LIB_DIR");
     println!("cargo:rerun-if-changed={}", library.display());
     if !library.is_file() {
-        panic!("{} is missing: run `rt staticlib sheets` in the sheets repository, or set SHEETS_LIB_DIR", library.display());
+        panic!("{} is missing: run `hosts/library` in the sheets repository, or set SHEETS_LIB_DIR", library.display());
     }
     println!("cargo:rustc-link-search=native={}", folder.display());
     println!("cargo:rustc-link-lib=static=sheets");

@@ -22,22 +22,22 @@ use Rattle.repair_rings.specs.Rings.{lines}
 use Rattle.sheet_form.specs.Numbers.{Sheet, members}
 use Rattle.sheet_blob.specs.declared.Opened.{Opened}
 use Rattle.sheet_blob_written.specs.Normal.{Blob, written_blob}
-use Rattle.sheet_blob_written.specs.Given.{blobForm, blobGiven, writeBlob as writeBlobOutcome}
-use Rattle.sheet_blob_written.proofs.Given.{given-blob}
+use Rattle.sheet_blob_written.specs.Given.{blob_form, blob_given, write_blob as write_blob_outcome}
+use Rattle.sheet_blob_written.proofs.Given.{given_blob}
 use Rattle.sheet_modes.specs.Modes.{header_by, read_by, framed}
 use Rattle.sheet_written.specs.Fits.{sheet_fits}
-use Rattle.sheet_written.specs.Given.{sheetGiven, writeOutcome}
+use Rattle.sheet_written.specs.Given.{sheet_given, write_outcome}
 use Rattle.sheet_written.specs.Normal.{written}
-use Rattle.sheet_written.proofs.Given.{given-form}
+use Rattle.sheet_written.proofs.Given.{given_form}
 use Rattle.sheet_ring_bytes.specs.Lines.{line_bytes}
 use Rattle.judged.specs.Judged.{Judged, matched, judged_sheet, repair_of}
 use Rattle.judged.proofs.Stages.{matched_value, matched_refused}
 use Rattle.listing_lines.specs.Lines.{refused_line}
-use Rattle.listing.specs.Listing.{listing_of, listing as listingBy}
+use Rattle.listing.specs.Listing.{listing_of, listing as listing_by}
 use Rattle.outcomes.specs.declared.Wanted.TheVariants.{OwnerSets, Owners}
 use Rattle.outcomes.specs.Entries.{u64, telling, form_of, first_of, form_outcome, read_to, i64, areas_outcome, on_sheet, owned_sides, goes_on}
 use Rattle.demands.specs.Answers.{OtherEnvelope, HasOwners, HasSets, Refused, NoOwner, Repaired, KnownWay, OnSheet, PolygonRefused}
-use Rattle.demands.specs.Entries.{numbers, areas, position, write, writeBlob, owner_sets, owners, boundary, rings, ring_room, listing, outcome_of}
+use Rattle.demands.specs.Entries.{numbers, areas, position, write, write_blob, owner_sets, owners, boundary, rings, ring_room, listing, outcome_of}
 use Rattle.demands.proofs.Envelopes.{framed_no, framed_yes}
 use Rattle.demands.proofs.Sets.{with_owners, has_owners, has_sets, owners_each, is_refused, answers_on, refuses_on}
 use Rattle.demands.proofs.After.{same_answer, after_answers, after_refuses, asked_passes, asked_refused}
@@ -137,14 +137,14 @@ module _ (mode : ℕ) (s : List ℕ) (all : All (λ b. b < 256) s) where
         from (inr (c, i, n, p, o)) =
             (chain_refused (read_by members mode s) then_next code item).1 (inr (n, p, (chain_refused (matched (framed header n)) (λ _. next n) code item).1 (inl ((matched_refused (framed header n) code item).1 ((framed_no mode s n).1 o, c, i)))))
 
-  form-length : (n : Sheet) → length (first_of header) + length (form_of n) ≡ length (first_of header ++ form_of n)
-  form-length n = sym (length-append (first_of header) (form_of n))
+  form_length : (n : Sheet) → length (first_of header) + length (form_of n) ≡ length (first_of header ++ form_of n)
+  form_length n = sym (length-append (first_of header) (form_of n))
 
   pub numbers_answers : (item : ℕ) (l : List ℕ)
       → (outcome_of (numbers mode) s ≡ bytes item l) ↔ ((n : Sheet) × (read_by members mode s ≡ value n) × (OtherEnvelope mode s n → ⊥) × (l ≡ first_of (header_by mode s) ++ form_of n) × (item ≡ length l))
   numbers_answers item l = Iff.trans (reads_answers (form_outcome header) (record { item = item; text = l })) (
-    λ (n, p, o, r). let (f, i) = (same_answer (length (first_of header) + length (form_of n)) item (first_of header ++ form_of n) l).0 r in (n, p, o, f, i ∙ form-length n ∙ ap length (sym f)),
-    λ (n, p, o, f, i). (n, p, o, (same_answer (length (first_of header) + length (form_of n)) item (first_of header ++ form_of n) l).1 (f, i ∙ ap length f ∙ sym (form-length n))),
+    λ (n, p, o, r). let (f, i) = (same_answer (length (first_of header) + length (form_of n)) item (first_of header ++ form_of n) l).0 r in (n, p, o, f, i ∙ form_length n ∙ ap length (sym f)),
+    λ (n, p, o, f, i). (n, p, o, (same_answer (length (first_of header) + length (form_of n)) item (first_of header ++ form_of n) l).1 (f, i ∙ ap length f ∙ sym (form_length n))),
   )
 
   -- Otherwise it gives the refusal of reading, and then 52 for an envelope that isn't the frame: "After reading, the numbers entry has only 40."
@@ -207,39 +207,39 @@ module _ (s : List ℕ) (all : All (λ b. b < 256) s) where
   abbrev SheetForm : Sheet → Type 0
   SheetForm n = T (sheet_fits members n) × (form_of n ≡ s)
 
-  sheet_form : (n : Sheet) → (sheetGiven members s ≡ some n) ↔ SheetForm n
-  sheet_form = given-form members (omega arith) s all
+  sheet_form : (n : Sheet) → (sheet_given members s ≡ some n) ↔ SheetForm n
+  sheet_form = given_form members (omega arith) s all
 
   -- "The writer takes this form": it answers exactly if the bytes are the numbers form of a sheet within the limits, and then the sheet's normal
   -- bytes; the item is their number.
   pub write_answers : (item : ℕ) (l : List ℕ)
       → (outcome_of write s ≡ bytes item l) ↔ ((n : Sheet) × T (sheet_fits members n) × (form_of n ≡ s) × (l ≡ written n) × (item ≡ length (written n)))
-  write_answers item l = Iff.trans (writer_answers written writeOutcome refl (λ n. refl) (sheetGiven members s) SheetForm sheet_form item l) (λ (n, (t, f), e, i). (n, t, f, e, i), λ (n, t, f, e, i). (n, (t, f), e, i))
+  write_answers item l = Iff.trans (writer_answers written write_outcome refl (λ n. refl) (sheet_given members s) SheetForm sheet_form item l) (λ (n, (t, f), e, i). (n, t, f, e, i), λ (n, t, f, e, i). (n, (t, f), e, i))
 
   -- "42: numbers given to the writer break a limit, range or closing, or don't make up a whole sheet", item 0: the bytes are the numbers form of no
   -- sheet within the limits.
   pub write_refuses : (code item : ℕ) → (outcome_of write s ≡ refused code item) ↔ ((code ≡ 42) × (item ≡ 0) × ((n : Sheet) → T (sheet_fits members n) → form_of n ≡ s → ⊥))
-  write_refuses code item = Iff.trans (writer_refuses written writeOutcome refl (λ n. refl) (sheetGiven members s) SheetForm sheet_form code item) (λ (c, i, f). (c, i, λ n t e. f n (t, e)), λ (c, i, f). (c, i, λ n (t, e). f n t e))
+  write_refuses code item = Iff.trans (writer_refuses written write_outcome refl (λ n. refl) (sheet_given members s) SheetForm sheet_form code item) (λ (c, i, f). (c, i, λ n t e. f n (t, e)), λ (c, i, f). (c, i, λ n (t, e). f n t e))
 
   -- ---- sheet_write_blob
   abbrev BlobForm : Blob → Type 0
-  BlobForm b = T (sheet_fits members b.sheet) × (b.number < 2 ^ 32) × (blobForm b ≡ s)
+  BlobForm b = T (sheet_fits members b.sheet) × (b.number < 2 ^ 32) × (blob_form b ≡ s)
 
-  blob_form : (b : Blob) → (blobGiven members s ≡ some b) ↔ BlobForm b
-  blob_form = given-blob members (omega arith) s all
+  blob_form_lem : (b : Blob) → (blob_given members s ≡ some b) ↔ BlobForm b
+  blob_form_lem = given_blob members (omega arith) s all
 
   -- It answers exactly if the bytes are the numbers form of a blob, a number of 32 bits and a sheet within the limits, and then the blob's normal bytes; the item
   -- is their number.
   pub write_blob_answers : (item : ℕ) (l : List ℕ)
-      → (outcome_of writeBlob s ≡ bytes item l) ↔ ((b : Blob) × T (sheet_fits members b.sheet) × (b.number < 2 ^ 32) × (blobForm b ≡ s) × (l ≡ written_blob b) × (item ≡ length (written_blob b)))
+      → (outcome_of write_blob s ≡ bytes item l) ↔ ((b : Blob) × T (sheet_fits members b.sheet) × (b.number < 2 ^ 32) × (blob_form b ≡ s) × (l ≡ written_blob b) × (item ≡ length (written_blob b)))
   write_blob_answers item l =
-      Iff.trans (writer_answers written_blob writeBlobOutcome refl (λ b. refl) (blobGiven members s) BlobForm blob_form item l) (λ (b, (t, k, f), e, i). (b, t, k, f, e, i), λ (b, t, k, f, e, i). (b, (t, k, f), e, i))
+      Iff.trans (writer_answers written_blob write_blob_outcome refl (λ b. refl) (blob_given members s) BlobForm blob_form_lem item l) (λ (b, (t, k, f), e, i). (b, t, k, f, e, i), λ (b, t, k, f, e, i). (b, (t, k, f), e, i))
 
   -- Otherwise 42, item 0: they are the numbers form of no such blob.
   pub write_blob_refuses : (code item : ℕ)
-      → (outcome_of writeBlob s ≡ refused code item) ↔ ((code ≡ 42) × (item ≡ 0) × ((b : Blob) → T (sheet_fits members b.sheet) → b.number < 2 ^ 32 → blobForm b ≡ s → ⊥))
+      → (outcome_of write_blob s ≡ refused code item) ↔ ((code ≡ 42) × (item ≡ 0) × ((b : Blob) → T (sheet_fits members b.sheet) → b.number < 2 ^ 32 → blob_form b ≡ s → ⊥))
   write_blob_refuses code item =
-      Iff.trans (writer_refuses written_blob writeBlobOutcome refl (λ b. refl) (blobGiven members s) BlobForm blob_form code item) (λ (c, i, f). (c, i, λ b t k e. f b (t, k, e)), λ (c, i, f). (c, i, λ b (t, k, e). f b t k e))
+      Iff.trans (writer_refuses written_blob write_blob_outcome refl (λ b. refl) (blob_given members s) BlobForm blob_form_lem code item) (λ (c, i, f). (c, i, λ b t k e. f b (t, k, e)), λ (c, i, f). (c, i, λ b (t, k, e). f b t k e))
 
 module _ (mode : ℕ) (s : List ℕ) (all : All (λ b. b < 256) s) where
   -- ---- the entries that judge
@@ -341,13 +341,13 @@ module _ (mode : ℕ) (s : List ℕ) (all : All (λ b. b < 256) s) where
       ⊎ ((code : ℕ) × (k : ℕ) × Refused mode s code k × (l ≡ refused_line code k))))
   listing_answers way item l = (to (judged_sheet mode s) refl, λ (i, text). from i text)
     where
-      to : (j : Answer Judged) → judged_sheet mode s ≡ j → bytes (length (listingBy way j)) (listingBy way j) ≡ bytes item l
+      to : (j : Answer Judged) → judged_sheet mode s ≡ j → bytes (length (listing_by way j)) (listing_by way j) ≡ bytes item l
           → (item ≡ length l) × (((n : Sheet) × (o : List (List ℕ)) × HasOwners mode s n o × (l ≡ listing_of way (record { sheet = n; owners = o }))) ⊎ ((code : ℕ) × (k : ℕ) × Refused mode s code k × (l ≡ refused_line code k)))
       to (value j) p e = let (f, i) = (same_answer _ item _ l).0 e in (i ∙ ap length (sym f), inl (j.sheet, j.owners, (has_owners mode s j.sheet j.owners).0 p, f))
       to (refused code k) p e = let (f, i) = (same_answer _ item _ l).0 e in (i ∙ ap length (sym f), inr (code, k, (is_refused mode s code k).0 p, f))
 
-      prints : (j : Answer Judged) → judged_sheet mode s ≡ j → item ≡ length l → l ≡ listingBy way j → outcome_of (listing mode way) s ≡ bytes item l
-      prints j e i f = ap (λ j. bytes (length (listingBy way j)) (listingBy way j)) e ∙ (same_answer _ item _ l).1 (f, i ∙ ap length f)
+      prints : (j : Answer Judged) → judged_sheet mode s ≡ j → item ≡ length l → l ≡ listing_by way j → outcome_of (listing mode way) s ≡ bytes item l
+      prints j e i f = ap (λ j. bytes (length (listing_by way j)) (listing_by way j)) e ∙ (same_answer _ item _ l).1 (f, i ∙ ap length f)
 
       from : item ≡ length l → ((n : Sheet) × (o : List (List ℕ)) × HasOwners mode s n o × (l ≡ listing_of way (record { sheet = n; owners = o }))) ⊎ ((code : ℕ) × (k : ℕ) × Refused mode s code k × (l ≡ refused_line code k))
           → outcome_of (listing mode way) s ≡ bytes item l
@@ -355,7 +355,7 @@ module _ (mode : ℕ) (s : List ℕ) (all : All (λ b. b < 256) s) where
       from i (inr (code, k, r, f)) = prints (refused code k) ((is_refused mode s code k).1 r) i f
 
   pub listing_always : (way : ℕ) → (l : List ℕ) × (outcome_of (listing mode way) s ≡ bytes (length l) l)
-  listing_always way = (listingBy way (judged_sheet mode s), refl)
+  listing_always way = (listing_by way (judged_sheet mode s), refl)
 
   -- Never is it refused.
   pub listing_refuses_nothing : (way code item : ℕ) → outcome_of (listing mode way) s ≡ refused code item → ⊥

@@ -35,19 +35,19 @@ use Rattle.sheet_blob.proofs.Grammar.{BlobRead, read_exactly, sheet_behind}
 use Rattle.sheet_blob.proofs.Refusals.{refused_exactly}
 use Rattle.sheet_standard.specs.Limits.{sheet_of}
 use Rattle.sheet_written.specs.Fits.{sheet_fits}
-use Rattle.sheet_written.proofs.Given.{form-bytes}
+use Rattle.sheet_written.proofs.Given.{form_bytes}
 use Rattle.sheet_written.proofs.Held.{read_sheet_is}
 use Rattle.sheet_blob_written.specs.Normal.{Blob, written_blob, opened_of}
-use Rattle.sheet_blob_written.specs.Given.{blobForm}
+use Rattle.sheet_blob_written.specs.Given.{blob_form}
 use Rattle.sheet_blob_written.proofs.Trip.{blob_bytes, blob_back}
 use Rattle.sheet_blob_written.proofs.Trip as trip
 use Rattle.sheet_modes.specs.Modes.{Edition, present, older, edited, blob, Mode, mode_of, headed, around, found, header_by, read_by, framed}
 use Rattle.sheet_modes.proofs.Modes.{by_value, by_refused, in_mode_value, in_mode_refused, header_is, by_fits}
 use Rattle.outcomes.specs.Entries.{first_of, form_of}
-use Rattle.demands.specs.Answers.{OtherEnvelope, Refused, unread, breaks_a, breaks_b, breaks_c, unframed, not_carried, no_ground_lem}
+use Rattle.demands.specs.Answers.{OtherEnvelope, Refused, unread, breaks_a, breaks_b, breaks_c, unframed, not_carried, no_ground}
 use Rattle.demands.specs.Triangles.{Passes}
 use Rattle.demands.specs.Blobs.{ReadsBlobs, BlobOf}
-use Rattle.demands.specs.Entries.{numbers, writeBlob, outcome_of}
+use Rattle.demands.specs.Entries.{numbers, write_blob, outcome_of}
 use Rattle.demands.proofs.Stages.{of_reading, not_above, around_refused, read_opened}
 use Rattle.demands.proofs.Envelopes.{framed_yes}
 use Rattle.demands.proofs.Reading.{reads_the_standard}
@@ -151,7 +151,7 @@ judged_52 mode s = (λ r. to r refl, λ (n, p, t, o). unframed n p t o)
     to (breaks_c n p a b c) z = absurd (omega arith)
     to (unframed n p t o) z = (n, p, t, o)
     to (not_carried n p t o f) z = absurd (omega arith)
-    to (no_ground_lem n p t o f) z = absurd (omega arith)
+    to (no_ground n p t o f) z = absurd (omega arith)
 
 -- As numbers: a NaN equals no bound, and -0 equals 0.
 pub nan_differs : (n : ℤ) → Equals nan n → ⊥
@@ -197,18 +197,18 @@ equal_blobs = trip.equal_blobs
 -- number and the sheet that was read.
 pub blob_numbers_then_write : (mode : ℕ) (edition : Edition) → ReadsBlobs mode edition → (s : List ℕ) → All (λ b. b < 256) s → (item : ℕ) (l : List ℕ) → outcome_of (numbers mode) s ≡ bytes item l
     → (r : Opened) × (n : Sheet) × (header_by mode s ≡ some r) × (read_by members mode s ≡ value n)
-    × (let b : Blob = record { number = r.number; sheet = n } in outcome_of writeBlob l ≡ bytes (length (written_blob b)) (written_blob b))
+    × (let b : Blob = record { number = r.number; sheet = n } in outcome_of write_blob l ≡ bytes (length (written_blob b)) (written_blob b))
 blob_numbers_then_write mode edition reads s all item l q =
     let (n, p, o, e, i) = (numbers_answers mode s all item l).0 q in
     let (r, h) = header_there mode edition reads s n p in
     let w = (reads_blobs mode edition reads s all r n).0 (h, p) in
-    let f : l ≡ blobForm (record { number = r.number; sheet = n }) = e ∙ ap (λ o. first_of o ++ form_of n) h in
+    let f : l ≡ blob_form (record { number = r.number; sheet = n }) = e ∙ ap (λ o. first_of o ++ form_of n) h in
     let small : r.number < 2 ^ 32 = subst (λ r. r.number < 2 ^ 32) (sym w.opened) w.fits.number in
-    let form-all = all-++ (λ b. b < 256) (first_of (some r)) (form_of n) (bytes_below 4 r.number) (form-bytes (numbers_of n)) in
+    let form-all = all-++ (λ b. b < 256) (first_of (some r)) (form_of n) (bytes_below 4 r.number) (form_bytes (numbers_of n)) in
     (r, n, h, p, (write_blob_answers l (subst (All (λ b. b < 256)) (sym f) form-all) _ _).1 (record { number = r.number; sheet = n }, by_fits members s (omega arith) all mode n p, small, sym f, refl, refl))
 
 -- "Numbers after write are the identity byte for byte": given what the blob writer answers, the numbers entry answers what the blob writer was given.
-pub same_blob : (s : List ℕ) → All (λ b. b < 256) s → (item : ℕ) (l : List ℕ) → outcome_of writeBlob s ≡ bytes item l → outcome_of (numbers 2) l ≡ bytes (length s) s
+pub same_blob : (s : List ℕ) → All (λ b. b < 256) s → (item : ℕ) (l : List ℕ) → outcome_of write_blob s ≡ bytes item l → outcome_of (numbers 2) l ≡ bytes (length s) s
 same_blob s all item l q =
     let (b, t, k, f, e, i) = (write_blob_answers s all item l).0 q in
     let h = header_back b k t 2 present refl in

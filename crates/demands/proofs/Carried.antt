@@ -18,15 +18,15 @@ use Rattle.plane.specs.Members.{Member, double_area}
 use Rattle.lent.specs.Stages.{Answer, value, refused}
 use Rattle.table.specs.Table.{frame_edges, RuleA, RuleB, RuleC, check_table}
 use Rattle.table.specs.Sets.{SetOf}
-use Rattle.table.proofs.Rules.{passes as by-rules, refused_as}
+use Rattle.table.proofs.Rules.{passes as by_rules, refused_as}
 use Rattle.owners_marks.specs.Marks.{owners_from}
 use Rattle.owners.specs.Judging.{Carries, Groundless, carried as carried_by, not_carried, no_ground, code, judge, AreaOfOwnership}
 use Rattle.owners.specs.Owners.{judge_from}
-use Rattle.owners.proofs.Carried.{answered, answers, not_carried_lem, no_ground_lem as by-boundary, not_empty, area_above}
+use Rattle.owners.proofs.Carried.{answered, answers, not_carried_lem, no_ground_lem as by_boundary, not_empty, area_above}
 use Rattle.owners_judge.specs.declared.Judging.{Judging}
 use Rattle.owners_judge.specs.declared.Judging.TheVariants.{Carried as Yes}
 use Rattle.owners_judge.specs.Judged.{judged_of}
-use Rattle.owners_judge.proofs.Judged.{judging_says as code-says}
+use Rattle.owners_judge.proofs.Judged.{judging_says as code_says}
 use Rattle.sheet_form.specs.Numbers.{Sheet, members}
 use Rattle.sheet_modes.specs.Modes.{read_by}
 use Rattle.judged.specs.Judged.{Judged, judged_sheet}
@@ -42,7 +42,7 @@ use Rattle.demands.proofs.Order.{is_first, first_no_set, first_no_ground}
 
 -- A table passes exactly if the three table rules hold.
 pub passes : (table : List Triangle) → (check_table (frame_edges table) table ≡ value tt) ↔ (RuleA table × RuleB table × RuleC (frame_edges table) table)
-passes table = by-rules (frame_edges table) table
+passes table = by_rules (frame_edges table) table
 
 -- Otherwise it is refused: "10: rule A, first such triangle",
 pub breaks_a : (table : List Triangle) (k : ℕ) → (check_table (frame_edges table) table ≡ refused 10 k) ↔ First NoArea table k
@@ -63,7 +63,7 @@ pub carried : (table : List Triangle) → RuleA table → RuleB table → (m : M
     × ((judge table m ≡ no_ground) ↔ Groundless table m)
     × ((s : List Bool) → SetOf table s → Carries table s m → (Groundless table m → ⊥) → judge table m ≡ carried_by s)
     × ((s : List Bool) → judge table m ≡ carried_by s → AreaOfOwnership table m s)
-carried table area once m = (not_carried_lem table m area once, by-boundary table m area once, answers table m area once, answered table m area once)
+carried table area once m = (not_carried_lem table m area once, by_boundary table m area once, answers table m area once, answered table m area once)
 
 -- The set of a polygon that is refused neither way is not empty, and the polygon has a double area above 0.
 pub has_ground : (table : List Triangle) → RuleA table → RuleB table → (m : Member) (s : List Bool) → AreaOfOwnership table m s
@@ -74,7 +74,7 @@ has_ground table area once m s o = (not_empty table m area once s o, area_above 
 -- everywhere, and else the labels are its set.
 pub judging_says : (table : List Triangle) → RuleA table → RuleB table → (m : Member) (r : Judging) (labels : List Bool) → judged_of r labels ≡ judge table m
     → ((code (judged_of r labels) ≡ 20) ↔ NoSet table m) × ((code (judged_of r labels) ≡ 21) ↔ Groundless table m) × (r ≡ Yes → AreaOfOwnership table m labels)
-judging_says table area once m = code-says table m area once
+judging_says table area once m = code_says table m area once
 
 -- ---- whole sheets
 -- The number given with 20 is that of the first polygon that no set of triangles carries, the number given with 21 that of the first without ground, where

@@ -26,7 +26,7 @@ use Rattle.outcomes.specs.declared.Wanted.TheVariants.{OwnerSets, Owners, Bounda
 use Rattle.outcomes.specs.Entries.{text_outcome, index_outcome, goes_on}
 use Rattle.outcomes.proofs.Index.{with_index}
 use Rattle.demands.specs.Triangles.{Passes}
-use Rattle.demands.specs.Answers.{OtherEnvelope, Refused, PolygonRefused, unread, breaks_a, breaks_b, breaks_c, unframed, not_carried, no_ground_lem}
+use Rattle.demands.specs.Answers.{OtherEnvelope, Refused, PolygonRefused, unread, breaks_a, breaks_b, breaks_c, unframed, not_carried, no_ground}
 use Rattle.demands.specs.Entries.{index, indexed, outcome_of}
 use Rattle.demands.specs.Index.{without}
 use Rattle.demands.proofs.Points.{at_refuses}
@@ -192,7 +192,7 @@ module _ (mode : ℕ) (s : List ℕ) (all : All (λ b. b < 256) s) where
   not_53 (breaks_c n p a b c) z = omega arith
   not_53 (unframed n p r w) z = omega arith
   not_53 (not_carried n p r w f) z = omega arith
-  not_53 (no_ground_lem n p r w f) z = omega arith
+  not_53 (no_ground n p r w f) z = omega arith
 
   never_asked : {way k item : ℕ} → PolygonRefused mode s way k 53 item → ⊥
   never_asked = ⊎_elim (λ r. not_53 r refl) (⊎_elim (λ h. omega (arith, h.0)) (⊎_elim (λ h. omega (arith, h.0)) (λ h. omega (arith, h.0))))

@@ -20,8 +20,8 @@ use Rattle.sheet_modes.specs.Modes.{read_by}
 use Rattle.outcomes.specs.declared.Wanted.{Wanted}
 use Rattle.outcomes.specs.declared.Wanted.TheVariants.{OwnerSets, Owners, Boundary, Rings, RingRoom, At}
 use Rattle.demands.specs.Refusals.{Row, alone, rows, in_row, Listed}
-use Rattle.demands.specs.Entries.{Entry, numbers, areas, position, write, writeBlob, owner_sets, owners, boundary, rings, ring_room, listing, owner_at, index, indexed, outcome_of}
-use Rattle.demands.specs.Answers.{Refused, PolygonRefused, unread, breaks_a, breaks_b, breaks_c, unframed, not_carried, no_ground_lem}
+use Rattle.demands.specs.Entries.{Entry, numbers, areas, position, write, write_blob, owner_sets, owners, boundary, rings, ring_room, listing, owner_at, index, indexed, outcome_of}
+use Rattle.demands.specs.Answers.{Refused, PolygonRefused, unread, breaks_a, breaks_b, breaks_c, unframed, not_carried, no_ground}
 use Rattle.demands.specs.Index.{without}
 use Rattle.demands.proofs.Index.{index_refuses, same_or_53}
 use Rattle.demands.proofs.Stages.{read_lawful, no_higher, read_limits}
@@ -116,7 +116,7 @@ module _ (mode : ℕ) (s : List ℕ) (all : All (λ b. b < 256) s) where
   refused_listed (breaks_c n p a b c) = in_row_lem 10 0 (omega arith) (omega arith) (omega arith)
   refused_listed (unframed n p r w) = in_row_lem 19 0 (omega arith) (omega arith) (omega arith)
   refused_listed (not_carried {k} n p r w f) = in_row_lem 11 k (omega arith) f.low (omega (arith, f.high, (read_limits mode s all n p).few_polygons))
-  refused_listed (no_ground_lem {k} n p r w f) = in_row_lem 12 k (omega arith) f.low (omega (arith, f.high, (read_limits mode s all n p).few_polygons))
+  refused_listed (no_ground {k} n p r w f) = in_row_lem 12 k (omega arith) f.low (omega (arith, f.high, (read_limits mode s all n p).few_polygons))
 
 -- An entry, in its mode.
 module _ (s : List ℕ) (all : All (λ b. b < 256) s) where
@@ -143,7 +143,7 @@ module _ (s : List ℕ) (all : All (λ b. b < 256) s) where
   outcome_listed (areas mode) code item q = ⊎_elim (unread_listed mode s all code item) (λ h. alone_listed 19 (omega arith) refl h.0 h.1) ((areas_refuses mode s all code item).0 q)
   outcome_listed (position mode) code item q = absurd (position_refuses_nothing mode s all code item q)
   outcome_listed write code item q = let (c, i, f) = (write_refuses s all code item).0 q in alone_listed 16 (omega arith) refl c i
-  outcome_listed writeBlob code item q = let (c, i, f) = (write_blob_refuses s all code item).0 q in alone_listed 16 (omega arith) refl c i
+  outcome_listed write_blob code item q = let (c, i, f) = (write_blob_refuses s all code item).0 q in alone_listed 16 (omega arith) refl c i
   outcome_listed (owner_sets mode) code item q = judged_listed mode 0 OwnerSets code item q
   outcome_listed (owners mode way) code item q = judged_listed mode way Owners code item q
   outcome_listed (boundary mode way k) code item q = judged_listed mode way (Boundary k) code item q

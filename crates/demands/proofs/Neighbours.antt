@@ -62,7 +62,7 @@ first_with e (t ∷ l) = go (any (λ d. same_edge d e) (sides t)) (some_side e (
   where
     go : (b : Bool) → T b ↔ Among same_edge e (sides t) → With e l (triangle_with e l) → With e (t ∷ l) (cond b 1 (later (triangle_with e l)))
     go true f w = inr (0, refl, omega arith, f.0 tt)
-    go false f (inl (z, n)) = inl (ap later z, λ k. elim k [ zero ↦ λ h m. f.1 m | (suc k) ↦ λ h m. n k (omega arith) m ])
+    go false f (inl (z, n)) = inl (ap later z, λ k. elim k as (λ k. k < length (t ∷ l) → Has (t ∷ l) k e → ⊥) [ zero ↦ λ h m. f.1 m | (suc k) ↦ λ h m. n k (omega arith) m ])
     go false f (inr (k, z, h, m)) = inr (suc k, ap later z, omega arith, m)
 
 -- ---- rule B

@@ -41,9 +41,9 @@ use Rattle.outcomes.specs.declared.Wanted.{Wanted}
 use Rattle.outcomes.specs.declared.Wanted.TheVariants.{OwnerSets, Owners, Boundary, Rings, RingRoom, At}
 use Rattle.outcomes.specs.Entries.{first_of, form_of, with_room, telling, sheet_position}
 use Rattle.outcomes.proofs.Position.{position_refused, nowhere}
-use Rattle.demands.specs.Answers.{OtherEnvelope, Refused, PolygonRefused, unread, breaks_a, breaks_b, breaks_c, unframed, not_carried, no_ground_lem}
+use Rattle.demands.specs.Answers.{OtherEnvelope, Refused, PolygonRefused, unread, breaks_a, breaks_b, breaks_c, unframed, not_carried, no_ground}
 use Rattle.demands.specs.Positions.{NextAfter, Enough, OfReading, ReadsSheet}
-use Rattle.demands.specs.Entries.{Entry, numbers, areas, position, write, writeBlob, owner_sets, owners, boundary, rings, ring_room, listing, owner_at, index, indexed, outcome_of}
+use Rattle.demands.specs.Entries.{Entry, numbers, areas, position, write, write_blob, owner_sets, owners, boundary, rings, ring_room, listing, owner_at, index, indexed, outcome_of}
 use Rattle.demands.specs.Index.{without}
 use Rattle.demands.proofs.Index.{index_refuses, before_index, same_or_53}
 use Rattle.demands.proofs.Stages.{not_between, not_above, read_opened}
@@ -78,19 +78,19 @@ module _ (s : List ℕ) (all : All (λ b. b < 256) s) where
           go false q =
               let z = eqb-false (reading_of members s).code 0 q in
               let (c, i) = (same_refusal {A = Sheet} _ _ code item).0 (sym (read_refused members s z) ∙ e) in
-              (_, (refused_exactly members s code item _).0 (record { code_is = sym c; item-is = sym i; position-is = refl }, λ k. z (sym c ∙ k)))
+              (_, (refused_exactly members s code item _).0 (record { code_is = sym c; item_is = sym i; position_is = refl }, λ k. z (sym c ∙ k)))
 
       from : (position : ℕ) × FaultIn members s code item position → read_sheet members s ≡ refused code item
       from (p, f) =
           let (e, n) = (refused_exactly members s code item p).1 f in
-          read_refused members s (λ z. n (sym e.code_is ∙ z)) ∙ (same_refusal {A = Sheet} _ _ code item).1 (sym e.code_is, sym e.item-is)
+          read_refused members s (λ z. n (sym e.code_is ∙ z)) ∙ (same_refusal {A = Sheet} _ _ code item).1 (sym e.code_is, sym e.item_is)
 
   -- in one place only,
   pub one_place : (code item position code' item' position' : ℕ) → FaultIn members s code item position → FaultIn members s code' item' position' → (code ≡ code') × (item ≡ item') × (position ≡ position')
   one_place code item at code' item' at' f g =
       let (e, n) = (refused_exactly members s code item at).1 f in
       let (d, m) = (refused_exactly members s code' item' at').1 g in
-      (sym e.code_is ∙ d.code_is, sym e.item-is ∙ d.item-is, sym e.position-is ∙ d.position-is)
+      (sym e.code_is ∙ d.code_is, sym e.item_is ∙ d.item_is, sym e.position_is ∙ d.position_is)
 
   -- which is never beyond the bytes;
   pub in_the_bytes : (code item position : ℕ) → FaultIn members s code item position → position ≤ length s
@@ -128,7 +128,7 @@ module _ (s : List ℕ) (all : All (λ b. b < 256) s) (mode : ℕ) where
         let (e, n) = (refused_exactly members t code item at).1 f in
         let z = ne_eqb (reading_of members t).code 0 (λ k. n (sym e.code_is ∙ k)) in
         position_refused mode s code item (begins o + at) ((in_mode_refused members s mode m o known is code item).1 ((refused_where t bytes code item).1 (at, f)))
-        (ap (λ p. begins o + p) (sym e.position-is) ∙ sym (position_behind mode s m known o is z))
+        (ap (λ p. begins o + p) (sym e.position_is) ∙ sym (position_behind mode s m known o is z))
 
     -- of a blob's header at fault: 1 with the position of its field, 50 and 51 with 0;
     pub tells_header : m.form ≡ blob → (code at : ℕ) → Fault s code at → sheet_position mode s ≡ telling code at
@@ -163,7 +163,7 @@ module _ (mode : ℕ) (s : List ℕ) (all : All (λ b. b < 256) s) (code item : 
   by_reading (breaks_c n p a b c) l = absurd (not_between l (omega arith) (omega arith))
   by_reading (unframed n p r w) l = absurd (not_above l (omega arith) (omega arith))
   by_reading (not_carried n p r w f) l = absurd (not_between l (omega arith) (omega arith))
-  by_reading (no_ground_lem n p r w f) l = absurd (not_between l (omega arith) (omega arith))
+  by_reading (no_ground n p r w f) l = absurd (not_between l (omega arith) (omega arith))
 
   -- 20, 21, 30, 41, 52, 53, 54 and 55 are no codes of reading.
   low_other : (c : ℕ) → 9 ≤ c → c ≤ 49 → {X : Type 0} → code ≡ c → X
@@ -209,7 +209,7 @@ module _ (mode : ℕ) (s : List ℕ) (all : All (λ b. b < 256) s) (code item : 
   )
   same_in_all (position m) r = absurd r
   same_in_all write r = absurd r
-  same_in_all writeBlob r = absurd r
+  same_in_all write_blob r = absurd r
   same_in_all (owner_sets m) r = subst (λ k. (outcome_of (owner_sets k) s ≡ refused code item) ↔ (read_by members mode s ≡ refused code item)) (sym r) (same_judged 0 OwnerSets)
   same_in_all (owners m way) r = subst (λ k. (outcome_of (owners k way) s ≡ refused code item) ↔ (read_by members mode s ≡ refused code item)) (sym r) (same_judged way Owners)
   same_in_all (boundary m way k) r = subst (λ z. (outcome_of (boundary z way k) s ≡ refused code item) ↔ (read_by members mode s ≡ refused code item)) (sym r) (same_judged way (Boundary k))

@@ -21,7 +21,7 @@ use Rattle.wkb.proofs.Again
 use Rattle.lent.specs.Stages.{Answer, value, refused}
 use Rattle.sheet_form.specs.Numbers.{Sheet, members}
 use Rattle.sheet_standard.specs.Limits.{SheetFits, sheet_of}
-use Rattle.sheet_standard.proofs.Standard.{reads_the_standard as by-steps}
+use Rattle.sheet_standard.proofs.Standard.{reads_the_standard as by_steps}
 use Rattle.sheet.specs.Read.{read_sheet}
 use Rattle.sheet_written.proofs.Held.{read_sheet_is}
 use Rattle.sheet_written.proofs.Sized.{read_small}
@@ -30,7 +30,7 @@ use Rattle.sheet_written.proofs.Sized.{read_small}
 pub reads_the_standard : (s : List ℕ) → All (λ b. b < 256) s → (n : Sheet) → (read_sheet members s ≡ value n) ↔ ((g : Geometry) × SheetFits members g × (encode g ≡ s) × (sheet_of g ≡ n))
 reads_the_standard s bytes n =
     let r = read_sheet_is members s n in
-    let t = by-steps members (omega arith) s bytes n in
+    let t = by_steps members (omega arith) s bytes n in
     (λ e. t.0 (r.0 e), λ g. r.1 (t.1 g))
 
 -- Bytes that no such tree has are refused, with a code and an item.

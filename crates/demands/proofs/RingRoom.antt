@@ -11,7 +11,7 @@ use lib.ListN.{length}
 use Rattle.whole.specs.Sums.{All}
 use Rattle.lent.specs.Stages.{value, refused}
 use Rattle.lent.specs.Answered.{Outcome, bytes, answer_of, Answered}
-use Rattle.repair_rings.specs.Rings.{lines, rings as ringsOf}
+use Rattle.repair_rings.specs.Rings.{lines, rings as rings_of}
 use Rattle.wkb_lines.specs.Room.{room_of, most_room}
 use Rattle.sheet_form.specs.Numbers.{Sheet}
 use Rattle.sheet_ring_bytes.specs.Lines.{line_bytes}
@@ -32,7 +32,7 @@ module _ (mode : ℕ) (s : List ℕ) (all : All (λ b. b < 256) s) (way k : ℕ)
   -- ---- sheet_ring_room and sheet_rings
   -- "The exact number, 9 + 16·S + 25 for each ring, is wanted before writing": where the boundary entry answers, with S sides, the item is that of S sides in so many rings (`room_of`),
   pub exact_number : (item : ℕ) (l : List ℕ) → (outcome_of (ring_room mode way k) s ≡ bytes item l) ↔ ((n : Sheet) × (sets : List (List ℕ)) × HasOwners mode s n sets × OnSheet n k × KnownWay way
-      × (o : List ℕ) × Repaired way n sets o × (l ≡ []) × (item ≡ room_of (length (owned_sides n k o)) (length (ringsOf (owned_sides n k o)))))
+      × (o : List ℕ) × Repaired way n sets o × (l ≡ []) × (item ≡ room_of (length (owned_sides n k o)) (length (rings_of (owned_sides n k o)))))
   exact_number item l = Iff.trans (ring_room_answers mode s all way k item l) (
     λ (n, sets, h, on, known, o, p, e, i). (n, sets, h, on, known, o, p, e, i ∙ exact_room n.table h.passes o (each n sets h o p) k),
     λ (n, sets, h, on, known, o, p, e, i). (n, sets, h, on, known, o, p, e, i ∙ sym (exact_room n.table h.passes o (each n sets h o p) k)),

@@ -28,12 +28,12 @@ use Rattle.sheet_form.specs.Numbers.{numbers_of, members}
 use Rattle.listing_lines.specs.Lines.{refused_word}
 use Rattle.sheet_blob.specs.declared.Opened.{Opened}
 use Rattle.sheet_blob_written.specs.Normal.{Blob, written_blob, opened_of}
-use Rattle.sheet_blob_written.specs.Given.{blobForm}
+use Rattle.sheet_blob_written.specs.Given.{blob_form}
 use Rattle.sheet_blob_written.proofs.Trip.{blob_length, blob_bytes}
 use Rattle.sheet_modes.specs.Modes.{present, header_by, read_by}
 use Rattle.sheet_modes.proofs.Modes.{by_present, by_fits}
 use Rattle.sheet_written.specs.Normal.{written}
-use Rattle.sheet_written.proofs.Given.{form-length, form-bytes}
+use Rattle.sheet_written.proofs.Given.{form_length, form_bytes}
 use Rattle.sheet_written.proofs.Held.{read_sheet_is}
 use Rattle.sheet_written.proofs.Largest.{largest, largest_fits, largest_numbers, largest_written}
 use Rattle.sheet_written.proofs.Sized.{written_small}
@@ -42,8 +42,8 @@ use Rattle.outcomes.specs.declared.Wanted.{Wanted}
 use Rattle.outcomes.specs.declared.Wanted.TheVariants.{OwnerSets, Owners, Boundary, Rings, RingRoom, At}
 use Rattle.outcomes.specs.Entries.{first_of, form_of, i64, owned_sides}
 use Rattle.outcomes.proofs.Sized.{line_most, listing_most, sides_most}
-use Rattle.demands.specs.Answers.{Refused, PolygonRefused, unread, breaks_a, breaks_b, breaks_c, unframed, not_carried, no_ground_lem}
-use Rattle.demands.specs.Entries.{Entry, numbers, areas, position, write, writeBlob, owner_sets, owners, boundary, rings, ring_room, listing, owner_at, index, indexed, outcome_of, room_of}
+use Rattle.demands.specs.Answers.{Refused, PolygonRefused, unread, breaks_a, breaks_b, breaks_c, unframed, not_carried, no_ground}
+use Rattle.demands.specs.Entries.{Entry, numbers, areas, position, write, write_blob, owner_sets, owners, boundary, rings, ring_room, listing, owner_at, index, indexed, outcome_of, room_of}
 use Rattle.demands.specs.Index.{without}
 use Rattle.demands.proofs.Neighbours.{six_each}
 use Rattle.demands.proofs.Index.{index_answers, index_refuses, same_or_53}
@@ -91,7 +91,7 @@ module _ (mode : ℕ) (s : List ℕ) (all : All (λ b. b < 256) s) where
   refused_other (breaks_c n p a b c) z = omega arith
   refused_other (unframed n p r w) z = omega arith
   refused_other (not_carried n p r w f) z = omega arith
-  refused_other (no_ground_lem n p r w f) z = omega arith
+  refused_other (no_ground n p r w f) z = omega arith
 
 module _ (s : List ℕ) (all : All (λ b. b < 256) s) where
   asked_not_forty : {mode way k code item : ℕ} → PolygonRefused mode s way k code item → code ≡ 40 → ⊥
@@ -111,7 +111,7 @@ module _ (s : List ℕ) (all : All (λ b. b < 256) s) where
   not_forty (areas mode) code item q z = ⊎_elim (λ p. unread_other mode s all code item p z) (λ h. omega (arith, h.0)) ((areas_refuses mode s all code item).0 q)
   not_forty (position mode) code item q z = position_refuses_nothing mode s all code item q
   not_forty write code item q z = omega (arith, ((write_refuses s all code item).0 q).0)
-  not_forty writeBlob code item q z = omega (arith, ((write_blob_refuses s all code item).0 q).0)
+  not_forty write_blob code item q z = omega (arith, ((write_blob_refuses s all code item).0 q).0)
   not_forty (owner_sets mode) code item q z = judged_not_forty mode 0 OwnerSets code item q z
   not_forty (owners mode way) code item q z = judged_not_forty mode way Owners code item q z
   not_forty (boundary mode way k) code item q z = judged_not_forty mode way (Boundary k) code item q z
@@ -156,13 +156,13 @@ module _ (s : List ℕ) (all : All (λ b. b < 256) s) where
   fits (numbers mode) item l q =
       let (n, r, o, e, i) = (numbers_answers mode s all item l).0 q in
       let first = first_of (header_by mode s) in
-      omega (arith, ap length e, length-append first (form_of n), first_length mode s, form-length (numbers_of n), form_small members (omega arith) n (by_fits members s (omega arith) all mode n r))
+      omega (arith, ap length e, length-append first (form_of n), first_length mode s, form_length (numbers_of n), form_small members (omega arith) n (by_fits members s (omega arith) all mode n r))
   fits (areas mode) item l q =
       let (n, r, o, e, i) = (areas_answers mode s all item l).0 q in
       omega (arith, ap length e, areas_length (map double_area n.polygons), length-map n.polygons double_area, (read_limits mode s all n r).few_polygons)
   fits (position mode) item l q = omega (arith, (position_answers mode s all item l q).1)
   fits write item l q = let (n, t, f, e, i) = (write_answers s all item l).0 q in omega (arith, ap length e, written_small members n t)
-  fits writeBlob item l q = let (b, t, k, f, e, i) = (write_blob_answers s all item l).0 q in omega (arith, ap length e, blob_length b, written_small members b.sheet t)
+  fits write_blob item l q = let (b, t, k, f, e, i) = (write_blob_answers s all item l).0 q in omega (arith, ap length e, blob_length b, written_small members b.sheet t)
   fits (owner_sets mode) item l q = judged_fits mode 0 OwnerSets item l q
   fits (owners mode way) item l q = judged_fits mode way Owners item l q
   fits (boundary mode way k) item l q = judged_fits mode way (Boundary k) item l q
@@ -207,11 +207,11 @@ module _ (s : List ℕ) (all : All (λ b. b < 256) s) where
 pub least_numbers : (s : List ℕ) × All (λ b. b < 256) s × (item : ℕ) × (l : List ℕ) × (outcome_of (numbers 0) s ≡ bytes item l) × (length l ≡ room_of (numbers 0))
 least_numbers =
     let r = (read_sheet_is members (written largest) largest).1 (round_trip members (omega arith) largest largest_fits) in
-    (written largest, written_bytes largest, _, _, (numbers_answers 0 (written largest) (written_bytes largest) _ _).1 (largest, by_present members (written largest) ∙ r, no_envelope 0 (omega arith) (written largest) largest, refl, refl), omega (arith, form-length (numbers_of largest), largest_numbers))
+    (written largest, written_bytes largest, _, _, (numbers_answers 0 (written largest) (written_bytes largest) _ _).1 (largest, by_present members (written largest) ∙ r, no_envelope 0 (omega arith) (written largest) largest, refl, refl), omega (arith, form_length (numbers_of largest), largest_numbers))
 
 pub least_write : (s : List ℕ) × All (λ b. b < 256) s × (item : ℕ) × (l : List ℕ) × (outcome_of write s ≡ bytes item l) × (length l ≡ room_of write)
 least_write =
-    let b = form-bytes (numbers_of largest) in
+    let b = form_bytes (numbers_of largest) in
     (form_of largest, b, _, _, (write_answers (form_of largest) b _ _).1 (largest, largest_fits, refl, refl, refl), largest_written)
 
 -- And so are those for blobs.
@@ -227,11 +227,11 @@ least_blob_numbers =
       _,
       _,
       (numbers_answers 2 (written_blob b) (blob_bytes b) _ _).1 (largest, sheet_back b (omega arith) largest_fits 2 present refl, never_52 b (omega arith) largest_fits 2 present refl, refl, refl),
-      omega (arith, ap (λ o. length (first_of o ++ form_of largest)) h, length-append (first_of (some (opened_of b))) (form_of largest), length_bytes 4 0, form-length (numbers_of largest), largest_numbers),
+      omega (arith, ap (λ o. length (first_of o ++ form_of largest)) h, length-append (first_of (some (opened_of b))) (form_of largest), length_bytes 4 0, form_length (numbers_of largest), largest_numbers),
     )
 
-pub least_write_blob : (s : List ℕ) × All (λ b. b < 256) s × (item : ℕ) × (l : List ℕ) × (outcome_of writeBlob s ≡ bytes item l) × (length l ≡ room_of writeBlob)
+pub least_write_blob : (s : List ℕ) × All (λ b. b < 256) s × (item : ℕ) × (l : List ℕ) × (outcome_of write_blob s ≡ bytes item l) × (length l ≡ room_of write_blob)
 least_write_blob =
     let b = largest_blob in
-    let all = all-++ (λ x. x < 256) (bytes_of 4 0) (form_of largest) (bytes_below 4 0) (form-bytes (numbers_of largest)) in
-    (blobForm b, all, _, _, (write_blob_answers (blobForm b) all _ _).1 (b, largest_fits, omega arith, refl, refl, refl), omega (arith, blob_length b, largest_written))
+    let all = all-++ (λ x. x < 256) (bytes_of 4 0) (form_of largest) (bytes_below 4 0) (form_bytes (numbers_of largest)) in
+    (blob_form b, all, _, _, (write_blob_answers (blob_form b) all _ _).1 (b, largest_fits, omega arith, refl, refl, refl), omega (arith, blob_length b, largest_written))

@@ -33,7 +33,7 @@ use Rattle.judged.specs.Judged.{Judged, judged_sheet}
 use Rattle.judged.proofs.Repaired.{owners_many}
 use Rattle.judged.proofs.Stages.{polygons_value, sheet_value, sheet_refused, whole_around, judged_value, judged_refused}
 use Rattle.demands.specs.Polygons.{polygon}
-use Rattle.demands.specs.Answers.{HasOwners, HasSets, Refused, unread, breaks_a, breaks_b, breaks_c, unframed, not_carried, no_ground_lem}
+use Rattle.demands.specs.Answers.{HasOwners, HasSets, Refused, unread, breaks_a, breaks_b, breaks_c, unframed, not_carried, no_ground}
 use Rattle.demands.proofs.Table.{refused_a, refused_b, refused_c}
 use Rattle.demands.proofs.Order.{is_first}
 use Rattle.demands.proofs.Envelopes.{framed_no, framed_yes}
@@ -163,7 +163,7 @@ module _ (mode : ℕ) (s : List ℕ) where
           | inr (inl (r, b, c, i)) ↦ rw (c, i) (unframed n p ((passes (frame_edges n.table) n.table).0 r) ((framed_no mode s n).0 b))
           | inr (inr (r, b, f)) ↦ elim (is_first n.table r n.polygons code item f) [
             | inl (c, first) ↦ subst (λ c. Refused mode s c item) (sym c) (not_carried n p ((passes (frame_edges n.table) n.table).0 r) ((framed_yes mode s n).0 b) first)
-            | inr (c, first) ↦ subst (λ c. Refused mode s c item) (sym c) (no_ground_lem n p ((passes (frame_edges n.table) n.table).0 r) ((framed_yes mode s n).0 b) first)
+            | inr (c, first) ↦ subst (λ c. Refused mode s c item) (sym c) (no_ground n p ((passes (frame_edges n.table) n.table).0 r) ((framed_yes mode s n).0 b) first)
           ]
         ]
       ]
@@ -178,7 +178,7 @@ module _ (mode : ℕ) (s : List ℕ) where
       from (breaks_c n p a b c) = table_refused n 12 0 p ((refused_c n.table 0).1 (refl, a, b, c))
       from (unframed n p r w) = (judged_refused mode s 52 0).1 (inr (n, p, (sheet_refused (whole_around mode s n) n 52 0).1 (inr (inl ((passes (frame_edges n.table) n.table).1 r, (framed_no mode s n).1 w, refl, refl)))))
       from (not_carried {k} n p r w f) = (first_refused mode s 20 k (inl refl)).1 (n, p, (passes (frame_edges n.table) n.table).1 r, w, inl (refl, f))
-      from (no_ground_lem {k} n p r w f) = (first_refused mode s 21 k (inr refl)).1 (n, p, (passes (frame_edges n.table) n.table).1 r, w, inr (refl, f))
+      from (no_ground {k} n p r w f) = (first_refused mode s 21 k (inr refl)).1 (n, p, (passes (frame_edges n.table) n.table).1 r, w, inr (refl, f))
 
   -- ---- what an entry goes on to
   module _ {A : Type 0} (next : Judged → Answer A) where

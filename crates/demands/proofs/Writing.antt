@@ -17,7 +17,7 @@ use Rattle.sheet.specs.Read.{read_sheet}
 use Rattle.sheet_modes.specs.Modes.{read_by}
 use Rattle.sheet_modes.proofs.Modes.{by_present, by_fits}
 use Rattle.sheet_written.specs.Normal.{written}
-use Rattle.sheet_written.proofs.Given.{form-bytes}
+use Rattle.sheet_written.proofs.Given.{form_bytes}
 use Rattle.sheet_written.proofs.Held.{read_sheet_is}
 use Rattle.sheet_written.proofs.Trip.{written_bytes}
 use Rattle.sheet_written.proofs.Trip
@@ -46,7 +46,7 @@ equal_bytes s t m n p q = Trip.equal_bytes members s t m n ((read_sheet_is membe
 -- ---- the entries
 -- "The writer takes this form": given the numbers form of any sheet within the limits, the writer answers the sheet's normal bytes.
 pub write_form : (n : Sheet) → T (sheet_fits members n) → outcome_of write (form_of n) ≡ bytes (length (written n)) (written n)
-write_form n h = (write_answers (form_of n) (form-bytes (numbers_of n)) _ _).1 (n, h, refl, refl, refl)
+write_form n h = (write_answers (form_of n) (form_bytes (numbers_of n)) _ _).1 (n, h, refl, refl, refl)
 
 -- Whatever is read can be written: given what the numbers entry answers of a sheet by itself, in either edition, the writer answers the normal bytes of the sheet
 -- that was read.

@@ -59,7 +59,7 @@ pub data Refused (mode : ℕ) (s : List ℕ) : ℕ → ℕ → Type 0 where
   breaks_c : (n : Sheet) → read_by members mode s ≡ value n → RuleA n.table → RuleB n.table → (RuleC (frame_edges n.table) n.table → ⊥) → Refused mode s 12 0
   unframed : (n : Sheet) → read_by members mode s ≡ value n → Passes n.table → OtherEnvelope mode s n → Refused mode s 52 0
   not_carried : {k : ℕ} (n : Sheet) → read_by members mode s ≡ value n → Passes n.table → (OtherEnvelope mode s n → ⊥) → FirstFaulty NoSet n.table n.polygons k → Refused mode s 20 k
-  no_ground_lem : {k : ℕ} (n : Sheet) → read_by members mode s ≡ value n → Passes n.table → (OtherEnvelope mode s n → ⊥) → FirstFaulty Groundless n.table n.polygons k → Refused mode s 21 k
+  no_ground : {k : ℕ} (n : Sheet) → read_by members mode s ≡ value n → Passes n.table → (OtherEnvelope mode s n → ⊥) → FirstFaulty Groundless n.table n.polygons k → Refused mode s 21 k
 
 -- No triangle has an owner.
 abbrev pub NoOwner : List (List ℕ) → Type 0

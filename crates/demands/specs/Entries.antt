@@ -12,7 +12,7 @@ pub data Entry : Type 0 where
   areas : (mode : ℕ) → Entry
   position : (mode : ℕ) → Entry
   write : Entry
-  writeBlob : Entry
+  write_blob : Entry
   owner_sets : (mode : ℕ) → Entry
   owners : (mode way : ℕ) → Entry
   boundary : (mode way polygon : ℕ) → Entry
@@ -29,7 +29,7 @@ outcome_of (numbers mode) s = sheet_numbers_by mode s
 outcome_of (areas mode) s = sheet_areas mode s
 outcome_of (position mode) s = sheet_position mode s
 outcome_of write s = sheet_write s
-outcome_of writeBlob s = sheet_write_blob s
+outcome_of write_blob s = sheet_write_blob s
 outcome_of (owner_sets mode) s = sheet_owner_sets_by mode s
 outcome_of (owners mode way) s = sheet_owners_by mode way s
 outcome_of (boundary mode way polygon) s = sheet_boundary_by mode way polygon s
@@ -46,7 +46,7 @@ room_of (numbers mode) = cond (leb mode 1) 65_800 65_804
 room_of (areas mode) = 512
 room_of (position mode) = 16
 room_of write = 158_290
-room_of writeBlob = 158_330
+room_of write_blob = 158_330
 room_of (owner_sets mode) = 8_192
 room_of (owners mode way) = 1_024
 room_of (boundary mode way polygon) = 49_152

@@ -6,7 +6,7 @@ use Rattle.wkb.specs.declared.Step.TheVariants.{Geometry, Ring, Point, End, Refu
 use Rattle.wkb.specs.Steps.{told_at}
 use Rattle.lent.specs.Stages.{value, refused}
 use Rattle.lent.specs.Answered.{Outcome}
-use Rattle.demands.specs.Entries.{Entry, numbers, areas, position, write, writeBlob, owner_sets, owners, boundary, rings, ring_room, listing, owner_at, index, indexed}
+use Rattle.demands.specs.Entries.{Entry, numbers, areas, position, write, write_blob, owner_sets, owners, boundary, rings, ring_room, listing, owner_at, index, indexed}
 
 -- The next place is within the bytes, and as far from where the step began as the field is long: 9 bytes a header, 4 a ring's count, 16 a point.
 abbrev pub NextAfter : List ℕ → Cursor → Step → Type 0
@@ -33,7 +33,7 @@ ReadsSheet mode (numbers m) = m ≡ mode
 ReadsSheet mode (areas m) = m ≡ mode
 ReadsSheet mode (position m) = ⊥
 ReadsSheet mode write = ⊥
-ReadsSheet mode writeBlob = ⊥
+ReadsSheet mode write_blob = ⊥
 ReadsSheet mode (owner_sets m) = m ≡ mode
 ReadsSheet mode (owners m way) = m ≡ mode
 ReadsSheet mode (boundary m way k) = m ≡ mode

@@ -1,7 +1,12 @@
 // Calls the entries as the frames of standard input say, and prints for each frame what was answered and a checksum of the lent bytes.
 // A frame: a byte for the entry, u32 LE length of its input, u32 LE number of lent bytes, the input. hosts/independent makes the frames and
 // the expected lines.
+#![tactic(auto)]
+
 ghost use Rattle.std.specs.Prelude.{◌≡◌, ◌+◌, ◌≤◌, ◌<◌, length};
+
+use std::io;
+use std::io::{Print, Read};
 
 // A byte as a number.
 fn wide(b: u8) -> usize
@@ -35,11 +40,8 @@ fn checksum(bytes: &[u8]) -> u64
 }
 
 // Prints a line: the answer and the checksum.
-fn line(answer: u64, sum: u64) {
-    io::print_decimal(1, answer);
-    io::write_all(1, b" ");
-    io::print_decimal(1, sum);
-    io::write_all(1, b"\n");
+fn line(rt: &impl Print, answer: u64, sum: u64) -> io::Result<()> {
+    println!(rt; "{answer} {sum}")
 }
 
 // What the boundary entry answers; the number of the polygon stands before the sheet, as a little-endian u32.
@@ -172,10 +174,10 @@ fn answer(entry: u8, input: &[u8], lent: &mut [u8]) -> u64 {
 }
 
 // Calls the entry with the lent bytes, and prints its line.
-fn call(entry: u8, input: &[u8], lent: &mut [u8]) {
+fn call(rt: &impl Print, entry: u8, input: &[u8], lent: &mut [u8]) -> io::Result<()> {
     let answer = answer(entry, input, lent);
     let sum = checksum(lent);
-    line(answer, sum);
+    line(rt, answer, sum)
 }
 
 // Room for the longest input.
@@ -200,46 +202,65 @@ fn capped(room: usize) -> usize
 }
 
 // The call of a frame whose input was read: so many lent bytes, each 170 before.
-fn lend(entry: u8, input: &[u8], room: usize)
+fn lend(rt: &impl Print, entry: u8, input: &[u8], room: usize) -> io::Result<()>
     requires { room ≤ 160000 }
 {
     let mut lent = room_to_lend();
-    call(entry, input, &mut lent[..room]);
+    call(rt, entry, input, &mut lent[..room])
+}
+
+// Reads until the bytes are full or the input ends, and answers how many there are.
+fn read_full<R: Read>(input: &mut R, bytes: &mut [u8]) -> io::Result<usize> {
+    let mut n: usize = 0;
+    while n < bytes.len() {
+        let more = input.read(&mut bytes[n..])?;
+        if more == 0 {
+            return Ok(n);
+        }
+        n += more;
+    }
+    Ok(n)
 }
 
 // Reads a frame's input and makes its call; false where the input is cut short.
-fn read(entry: u8, input: &mut [u8], room: usize) -> bool
+fn read<R: Read>(
+    rt: &impl Print,
+    frames: &mut R,
+    entry: u8,
+    input: &mut [u8],
+    room: usize,
+) -> io::Result<bool>
     requires { room ≤ 160000 }
 {
-    if io::read_full(0, input) < input.len() {
-        return false;
+    if read_full(frames, input)? < input.len() {
+        return Ok(false);
     }
-    lend(entry, input, room);
-    true
+    lend(rt, entry, input, room)?;
+    Ok(true)
 }
 
 // One frame; false at the end of the frames, or at one that is cut short or too long.
-fn frame() -> bool {
+fn frame<R: Read>(rt: &impl Print, frames: &mut R) -> io::Result<bool> {
     let mut head = [0u8; 9];
-    if io::read_full(0, &mut head) < 9 {
-        return false;
+    if read_full(frames, &mut head)? < 9 {
+        return Ok(false);
     }
     let size = number(&head, 1);
     let room = capped(number(&head, 5));
     if size > 200_000 {
-        return false;
+        return Ok(false);
     }
     let mut input = room_to_read();
-    read(head[0], &mut input[..size], room)
+    read(rt, frames, head[0], &mut input[..size], room)
 }
 
 // The frames one after another, at most 10,000.
-fn main() {
-    let mut left: usize = 10_000;
-    while left > 0 {
-        if !frame() {
-            return;
+fn main(rt: HostRuntime) -> io::Result<()> {
+    let mut frames = rt.stdin();
+    for _ in 0..10_000 {
+        if !frame(&rt, &mut frames)? {
+            break;
         }
-        left -= 1;
     }
+    Ok(())
 }

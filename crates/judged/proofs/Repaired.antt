@@ -39,7 +39,7 @@ use Rattle.repair.specs.OneOwner.{owners_at, FoundFor, OneOwner, shared_with, Ch
 use Rattle.repair.proofs.OneOwner.{Connects, paired, connects, refused_by, no_owner, not_given, none_alone, repaired_exactly, found_shared, way_tells}
 use Rattle.repair.proofs.Kept.{owners_kept}
 use Rattle.repair_sides.specs.Sides.{boundary_sides, triangles_owned}
-use Rattle.repair_sides.proofs.Bounding.{sides_are_boundary as are-boundary, sides_once as each_once, at_most_one as none_above, owned_once, frame_after}
+use Rattle.repair_sides.proofs.Bounding.{sides_are_boundary as are_boundary, sides_once as each_once, at_most_one as none_above, owned_once, frame_after}
 use Rattle.sheet_form.specs.Numbers.{Sheet, members, member_numbers, counted}
 use Rattle.sheet.specs.Held.{SheetHeld}
 use Rattle.sheet_edges.proofs.Triangles.{held_keys}
@@ -98,7 +98,7 @@ module _ {j : Judged} (e : judge_sheet j.sheet ≡ value j) where
 
     -- They are exactly the pairs at which the boundary of the polygon's triangles is 1,
     pub sides_are_boundary : (e : Edge) → Among same_edge e (boundary_sides (triangles_owned j.sheet.table o p)) ↔ (boundary (sides_of (triangles_owned j.sheet.table o p)) e ≡ pos 1)
-    sides_are_boundary = are-boundary (triangles_owned table o p) sides_single
+    sides_are_boundary = are_boundary (triangles_owned table o p) sides_single
 
     -- each once,
     pub sides_once : (e : Edge) → count same_edge e (boundary_sides (triangles_owned j.sheet.table o p)) ≤ 1

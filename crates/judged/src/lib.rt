@@ -1,4 +1,6 @@
 // From bytes to a judged sheet: reading in a mode, the table rules, the envelope, an index that is lent, and the judging of the polygons in number order.
+#![tactic(auto)]
+
 ghost use Rattle.std.specs.Prelude.{◌≡◌, ◌*◌, ◌/◌, ◌≤◌, min, length};
 ghost use Rattle.std.proofs.Math.Option.{none};
 ghost use Rattle.table_neighbours.specs.Neighbours.{lent_if};

@@ -1,4 +1,6 @@
 // The polygons of a sheet in numbers, judged in number order, and the owners of each triangle as one 64-bit set.
+#![tactic(auto)]
+
 ghost use Rattle.std.specs.Prelude.{◌≡◌, List, ℕ, ◌+◌, ◌*◌, ◌≤◌, ◌<◌, ℤ, length, replicate};
 ghost use Rattle.whole.specs.Sums.{All};
 ghost use Rattle.plane.specs.Members.{Member};
@@ -15,14 +17,14 @@ use owners_judge::Judging;
 use plane::OFFSET;
 
 // What the judging of the polygons comes to: the owner sets of so many triangles, or a refusal with its code and item.
-#[derive(Drop)]
+#[derive(Clone, Copy)]
 pub enum Owning {
     Sets(usize),
     Refused(u32, u32),
 }
 
 // How a polygon was judged, and the place behind it.
-#[derive(Drop)]
+#[derive(Clone, Copy)]
 pub struct Turn {
     pub judging: Judging,
     pub at: usize,

@@ -1,4 +1,6 @@
 // The table of a sheet in numbers by the table rules, against the frame of its corners.
+#![tactic(auto)]
+
 ghost use Rattle.std.specs.Prelude.{◌≡◌, ℕ, ◌*◌, length};
 ghost use Rattle.sheet_form.specs.Numbers.{Sheet};
 ghost use Rattle.sheet.specs.Held.{SheetHeld};

@@ -1,4 +1,6 @@
 // A number as little-endian bytes, written over lent ones; the others keep their values.
+#![tactic(auto)]
+
 ghost use Rattle.std.specs.Prelude.{◌≡◌, ◌+◌, ◌^◌, ◌<◌};
 ghost use Rattle.std.proofs.lemmas.List.Edits.{sets};
 ghost use Rattle.lent_little.specs.Ordered.{bytes};

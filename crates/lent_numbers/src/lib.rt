@@ -1,4 +1,6 @@
 // Held numbers as little-endian i32, written over lent bytes; those past them keep their values.
+#![tactic(auto)]
+
 ghost use Rattle.std.specs.Prelude.{◌≡◌, ◌+◌, ◌*◌, ◌≤◌, length, take, drop};
 ghost use mathlib.Core.List.{flat_map, ◌++◌};
 ghost use Rattle.std.proofs.lemmas.List.Edits.{sets};

@@ -1,4 +1,6 @@
 // Numbers of 64 bits, written over lent bytes: the owners of each triangle before repair, the double areas of the polygons.
+#![tactic(auto)]
+
 ghost use Rattle.std.specs.Prelude.{◌≡◌, ◌*◌, ◌≤◌, length, take, drop};
 ghost use mathlib.Core.List.{flat_map, ◌++◌};
 ghost use Rattle.lent_little.specs.Bytes.{set_bytes};

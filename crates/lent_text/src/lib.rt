@@ -1,5 +1,7 @@
 // The text of the listing: decimal numbers without idle zeros, one blank between fields, a line feed after each line.
 // What is put into a text changes no byte before or behind it.
+#![tactic(auto)]
+
 ghost use Rattle.std.specs.Prelude.{[], ◌∷◌, ◌+◌, ◌^◌, ◌≤◌, ◌<◌, pos, length};
 ghost use Rattle.lent_text.specs.Text.{digits, decimal, line_of};
 ghost use Rattle.lent_text.specs.Putting.{Put};

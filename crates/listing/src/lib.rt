@@ -1,4 +1,6 @@
 // The printed listing of a sheet, put together in lent text.
+#![tactic(auto)]
+
 ghost use Rattle.std.specs.Prelude.{◌≡◌, List, ℕ, ◌≤◌, length};
 ghost use Rattle.judged.specs.Judged.{Judged, judged_sheet};
 ghost use Rattle.judged.specs.Held.{JudgedHeld};

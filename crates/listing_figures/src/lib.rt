@@ -1,4 +1,6 @@
 // The figures of the listing: the double area of each triangle; of how many triangles a figure is, and their double area.
+#![tactic(auto)]
+
 ghost use Rattle.std.specs.Prelude.{◌≡◌, ◌≤◌, ◌*◌, length, map, pos};
 ghost use Rattle.whole.specs.Sums.{All};
 ghost use Rattle.table.specs.Sets.{chosen};
@@ -23,7 +25,7 @@ pub fn areas(keys: &[u64], areas: &mut [u64])
 }
 
 // Which triangles a figure is of: the gaps, the overlaps, or those that a polygon owns after repair.
-#[derive(Drop)]
+#[derive(Clone, Copy)]
 pub enum Figure {
     Gaps,
     Overlaps,
@@ -31,7 +33,7 @@ pub enum Figure {
 }
 
 // How many triangles there are, and their double area.
-#[derive(Drop)]
+#[derive(Clone, Copy)]
 pub struct Total {
     pub triangles: usize,
     pub area: u64,

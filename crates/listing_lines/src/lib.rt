@@ -1,4 +1,6 @@
 // The lines of the listing by the figures of the sheet, put together in lent text.
+#![tactic(auto)]
+
 ghost use Rattle.std.specs.Prelude.{◌≡◌, map, ◌+◌, ◌*◌, ◌≤◌, pos, length};
 ghost use Rattle.lent_text.specs.Putting.{Put};
 ghost use Rattle.repair_regions.specs.Regions.{from};

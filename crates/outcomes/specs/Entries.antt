@@ -19,9 +19,9 @@ use Rattle.repair_answers.specs.Answers.{numbers_after}
 use Rattle.repair_point.specs.Point.{owner_there}
 use Rattle.sheet_form.specs.Numbers.{Sheet, members, numbers_of}
 use Rattle.sheet_blob.specs.declared.Opened.{Opened}
-use Rattle.sheet_blob_written.specs.Given.{blobGiven, writeBlob}
+use Rattle.sheet_blob_written.specs.Given.{blob_given, write_blob}
 use Rattle.sheet_modes.specs.Modes.{mode_of, header_by, read_by, framed, position_in}
-use Rattle.sheet_written.specs.Given.{sheetGiven, writeOutcome}
+use Rattle.sheet_written.specs.Given.{sheet_given, write_outcome}
 use Rattle.sheet_ring_bytes.specs.Lines.{lines_after, room_after}
 use Rattle.judged.specs.Judged.{Judged, matched, check_framed, judged_with, judged_sheet, repair_of}
 use Rattle.listing.specs.Listing.{listing}
@@ -86,11 +86,11 @@ sheet_position mode s = telling (with_room (sheet_numbers_by mode s)) (position_
 -- ---- writing
 -- sheet_write: the normal bytes of the sheet that the numbers give, else 42.
 abbrev pub sheet_write : List ℕ → Outcome
-sheet_write s = writeOutcome (sheetGiven members s)
+sheet_write s = write_outcome (sheet_given members s)
 
 -- sheet_write_blob: the normal bytes of the blob that the numbers give, its reference-system number first, else 42.
 abbrev pub sheet_write_blob : List ℕ → Outcome
-sheet_write_blob s = writeBlob (blobGiven members s)
+sheet_write_blob s = write_blob (blob_given members s)
 
 -- ---- the entries that judge
 -- The boundary sides of the triangles that a polygon owns after repair; the item is the number of sides.

@@ -1,4 +1,6 @@
 // Who owns a triangle: the judging of one polygon, by labels that spread from the sides that it touches and a last comparison of the two boundaries.
+#![tactic(auto)]
+
 ghost use Rattle.std.specs.Prelude.{◌≡◌, List, ℕ};
 ghost use Rattle.plane.specs.Members.{Member, member_edges};
 ghost use Rattle.plane.specs.Keys.{pairs};
@@ -9,7 +11,7 @@ ghost use Rattle.owners_judge.specs.Preparing.{Prepared, WorkLists};
 ghost use Rattle.owners_judge.specs.Judged.{judged_of};
 
 // What the judging of a polygon answers: carried, by the labelled set; not carried; or no ground.
-#[derive(Drop)]
+#[derive(Clone, Copy)]
 pub enum Judging {
     Carried,
     NotCarried,

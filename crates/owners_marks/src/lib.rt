@@ -1,10 +1,12 @@
 // The owners of a triangle as one 64-bit set: a polygon's marks, and the count of ones that tells gap, single or overlap.
+#![tactic(auto)]
+
 ghost use Rattle.std.specs.Prelude.{◌≡◌, ◌+◌, ◌*◌, ◌^◌, ◌<◌, length};
 ghost use Rattle.whole.specs.Sums.{All, bit};
 ghost use Rattle.owners_marks.specs.Sets.{marked, standing_of};
 
 // How a triangle stands: a gap, of a single owner, or an overlap with its smallest owner number.
-#[derive(Drop)]
+#[derive(Clone, Copy)]
 pub enum Standing {
     Gap,
     Single(u32),

@@ -1,4 +1,6 @@
 // Whether a grid point belongs to a triangle. The triangle's corners are held; the point is any two numbers of 32 bits, in millimetres.
+#![tactic(auto)]
+
 ghost use Rattle.std.specs.Prelude.{◌≡◌, ◌-ℤ◌};
 ghost use Rattle.whole.specs.Numbers.{Within};
 ghost use Rattle.plane.specs.Points.{◌⟶◌, turn};

@@ -1,4 +1,6 @@
 // Corners as one number each, and the exact predicates on them: double area, "strictly between".
+#![tactic(auto)]
+
 ghost use Rattle.std.specs.Prelude.{◌≡◌, ◌+◌, ◌*◌, ◌<◌, ◌+ℤ◌, ◌-ℤ◌, ◌*ℤ◌, length};
 ghost use Rattle.whole.specs.Numbers.{Within};
 ghost use Rattle.whole.specs.Sums.{All};

@@ -46,6 +46,7 @@ length_most e h k =
 
 some_square : (d : ℕ) → 1 ≤ d → 1 ≤ d * d
 some_square (suc d) h = omega arith
+some_square zero h = elim h [ ]
 
 -- It is at least 1 unless the ends are one point.
 pub length_some : (e : Edge) → (dx e ≡ 0 → dy e ≡ 0 → ⊥) → 1 ≤ length_of e

@@ -1,4 +1,6 @@
 // The length of an edge: the whole root of dx² + dy².
+#![tactic(auto)]
+
 ghost use Rattle.std.specs.Prelude.{◌≡◌, ◌≤◌, nat_abs, ◌-ℤ◌};
 ghost use Rattle.plane.specs.Points.{◌⟶◌};
 ghost use Rattle.plane.specs.Corners.{millimetres};

@@ -1,4 +1,6 @@
 // Repair: overlaps settled to their smallest owner number, and each gap region given to the number chosen for it.
+#![tactic(auto)]
+
 ghost use Rattle.std.specs.Prelude.{◌≡◌, Bool, false, List, [], map, ℕ, ◌*◌, ◌+◌, ◌≤◌, ◌<◌, eqb, length, get_or, replicate};
 ghost use Rattle.whole.specs.Sums.{All, every};
 ghost use Rattle.table.specs.Table.{first_fault};
@@ -190,7 +192,7 @@ fn first_ungiven(owners: &[u8]) -> usize
 }
 
 // What repair comes to: it is done, or is refused with a code and an item.
-#[derive(Drop)]
+#[derive(Clone, Copy)]
 pub enum Repaired {
     Done,
     Refused(u32, u32),

@@ -1,1 +1,2 @@
 // No code: what is answered after repair.
+#![tactic(auto)]

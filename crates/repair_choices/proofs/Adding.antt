@@ -142,7 +142,7 @@ module _ {lengths opposite numbers : List ℕ} where
       ]
 
       -- It stays, where m is no longer and, if as long, no larger;
-      stays-favoured : 1 ≤ best → long' m ≤ long' best → (long' m ≡ long' best → m ≤ best) → Favoured lengths opposite numbers (k ∷ sides) best
+      stays_favoured : 1 ≤ best → long' m ≤ long' best → (long' m ≡ long' best → m ≤ best) → Favoured lengths opposite numbers (k ∷ sides) best
       stays_favoured h no_longer no-larger = record {
         one = inr (best_in h);
         none_longer = λ n i. elim (ℕ_discrete n m) [ yes q ↦ subst (λ n. long' n ≤ long' best) (sym q) no_longer | no q ↦ omega (arith, (earlier n i q).1, grown) ];

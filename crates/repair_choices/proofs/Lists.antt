@@ -60,6 +60,7 @@ greater_one m n = by_equal (λ r. (r ≡ m) ⊎ (r ≡ n)) (leb m n) n m (λ e. 
 -- None is above it,
 pub greatest_above : (l : List ℕ) (x : ℕ) → In x l → x ≤ greatest l
 greatest_above (y ∷ l) x i = elim i [ inl s ↦ omega (arith, s, greater_left y (greatest l)) | inr j ↦ omega (arith, greatest_above l x j, greater_right y (greatest l)) ]
+greatest_above [] x i = elim i [ ]
 
 -- and it is one of them, where there is one.
 pub greatest_in : (l : List ℕ) (x : ℕ) → In x l → In (greatest l) l
@@ -71,3 +72,4 @@ greatest_in (y ∷ z ∷ l) x i = elim (greater_one y (greatest (z ∷ l))) [
   | inl e ↦ inl (sym e)
   | inr e ↦ inr (subst (λ g. In g (z ∷ l)) (sym e) (greatest_in (z ∷ l) z (inl refl)))
 ]
+greatest_in [] x i = elim i [ ]

@@ -128,3 +128,4 @@ shared_some lengths opposite numbers long sides k h i =
         go : (j ≡ k) ⊎ In k l → (In k l → 1 ≤ total (map (λ k. get_or lengths k 0) l)) → 1 ≤ get_or lengths j 0 + total (map (λ k. get_or lengths k 0) l)
         go (inl e) f = omega (arith, long k h, ap (λ j. get_or lengths j 0) e)
         go (inr i) f = omega (arith, f i)
+    total_some [] i = elim i [ ]

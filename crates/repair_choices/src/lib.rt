@@ -1,1 +1,2 @@
 // No function: the choices for gap regions, by definitions and laws alone.
+#![tactic(auto)]

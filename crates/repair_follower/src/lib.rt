@@ -1,9 +1,11 @@
 // The boundary side that follows an arriving one: the sides that leave the corner are gone through anticlockwise, from the arriving side on, up to the first of
 // the polygon's triangles.
+#![tactic(auto)]
+
 ghost use Rattle.std.specs.Prelude.{◌≡◌, ℕ, ◌≤◌, ◌<◌, length};
 ghost use Rattle.lent_little.specs.Held.{end_of};
 ghost use Rattle.repair_regions.specs.Spreading.{Paired};
-ghost use Rattle.repair_follower.specs.Follower.{side_before, along_frame, turned_to, follower as followerOf};
+ghost use Rattle.repair_follower.specs.Follower.{side_before, along_frame, turned_to, follower as follower_of};
 
 // The side of the same triangle that leaves where side k ends.
 fn next_side(k: usize) -> usize
@@ -52,7 +54,7 @@ fn turned_to(opposite: &[usize], k: usize) -> usize
 // The boundary side of the polygon that follows its boundary side k.
 pub fn follower(opposite: &[usize], owners: &[u8], polygon: u8, k: usize) -> usize
     requires { Paired opposite.now (length owners.now) × (k < length opposite.now) × (length owners.now ≤ 1024) }
-    ensures { (result ≡ followerOf opposite.now owners.now polygon k) × (result < length opposite.now) }
+    ensures { (result ≡ follower_of opposite.now owners.now polygon k) × (result < length opposite.now) }
 {
     let mut s = turned_to(opposite, k);
     let mut i: usize = 0;

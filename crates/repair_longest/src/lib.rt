@@ -1,4 +1,6 @@
 // The choice of the longest shared boundary: of the numbers across a region's sides, the one with the greatest shared length.
+#![tactic(auto)]
+
 ghost use Rattle.std.specs.Prelude.{◌≡◌, Bool, List, ◌∷◌, ℕ, ◌+◌, ◌*◌, ◌/◌, ◌≤◌, ◌<◌, length, get_or};
 ghost use Rattle.whole.specs.Sums.{All};
 ghost use Rattle.repair_regions.specs.Spreading.{Paired};

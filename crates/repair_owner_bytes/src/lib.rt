@@ -1,4 +1,6 @@
 // The number of each triangle after repair, written over lent bytes.
+#![tactic(auto)]
+
 ghost use Rattle.std.specs.Prelude.{map, ◌≤◌, length};
 ghost use Rattle.lent.specs.Answered.{Answered};
 ghost use Rattle.owners_marks.specs.Sets.{owners_of};

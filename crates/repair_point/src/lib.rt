@@ -1,4 +1,6 @@
 // What is at a point: the owner after repair of the triangle that it belongs to.
+#![tactic(auto)]
+
 ghost use Rattle.std.specs.Prelude.{◌≡◌, [], map, ◌+◌, ◌≤◌, length};
 ghost use Rattle.lent.specs.Answered.{answer_of};
 ghost use Rattle.plane_winding.specs.Winding.{belongs};

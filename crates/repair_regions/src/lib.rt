@@ -1,4 +1,6 @@
 // Gap regions: the largest groups of gap triangles joined through shared sides, found in one pass.
+#![tactic(auto)]
+
 ghost use Rattle.std.specs.Prelude.{◌≡◌, true, false, ◌/◌, ◌≤◌, ◌<◌, length, get_or};
 ghost use Rattle.repair_regions.specs.Spreading.{Paired, Meeting, Taken, Grown, Fresh, InRegion, FreshFrom, Across, Rounded, Spread};
 

@@ -1,4 +1,6 @@
 // The boundary sides of a polygon after repair joined into rings, by number: one ring behind the other, and where each ends.
+#![tactic(auto)]
+
 ghost use Rattle.std.specs.Prelude.{◌≡◌, [], ◌-◌, ◌≤◌, ◌<◌, length};
 ghost use Rattle.whole.specs.Sums.{All};
 ghost use Rattle.repair_regions.specs.Spreading.{Paired};

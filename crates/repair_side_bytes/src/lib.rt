@@ -1,4 +1,6 @@
 // The boundary sides of a polygon after repair, written over lent bytes.
+#![tactic(auto)]
+
 ghost use Rattle.std.specs.Prelude.{◌≡◌, ◌+◌, ◌*◌, ◌≤◌, length, drop};
 ghost use mathlib.Core.List.{flat_map, map, ◌++◌};
 ghost use Rattle.std.proofs.lemmas.List.Edits.{sets};

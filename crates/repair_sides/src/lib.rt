@@ -1,4 +1,6 @@
 // The boundary sides of a polygon after repair.
+#![tactic(auto)]
+
 ghost use Rattle.std.specs.Prelude.{◌≡◌, ◌<◌, length};
 ghost use Rattle.repair_regions.specs.Spreading.{Paired};
 ghost use Rattle.repair_sides.specs.Numbered.{bounds, boundary_numbers, LaidDown};

@@ -16,7 +16,7 @@ use Rattle.whole.specs.Sums.{count}
 use Rattle.whole.proofs.Sums.{all_at, and_left, and_right}
 use Rattle.plane.specs.Points.{Point, Edge, flip, turn, double, sides, same_edge}
 use Rattle.plane.specs.Boundaries.{sides_of}
-use Rattle.whole_signs.proofs.Signs.{Sign, minus, null, plus, sign, is_plus, is_minus, opposite as opposite-sign, by_T, by_no_T}
+use Rattle.whole_signs.proofs.Signs.{Sign, minus, null, plus, sign, is_plus, is_minus, opposite as opposite_sign, by_T, by_no_T}
 use Rattle.plane_winding.proofs.Winding.{dot}
 use Rattle.plane_turning.specs.Turning.{sharper}
 use Rattle.plane_turning.proofs.Rays.{wedge, long, other_ray, wedge_first, sign_back}
@@ -284,7 +284,7 @@ module _ (keys : List ℕ) (n : ℕ) (whole : length keys ≡ 3 * n) (area : Rul
       left_too = not_minus (sign (turn c z y)) (subst (λ x. T (not (is_plus x))) (sign_back c z y)
           (subst (λ x. T (not (is_plus (sign (turn x y z))))) (sym s) (arrives_left keys n whole area framed h j f g i)))
         where
-          not_minus : (x : Sign) → T (not (is_plus (opposite-sign x))) → T (not (is_minus x))
+          not_minus : (x : Sign) → T (not (is_plus (opposite_sign x))) → T (not (is_minus x))
           not_minus minus t = t
           not_minus null t = tt
           not_minus plus t = tt

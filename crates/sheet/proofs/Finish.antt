@@ -1,14 +1,12 @@
 -- The beginning and the end of reading: nothing is read at first and the sheet's own geometry stands there; behind it the step is the end or 7,
 -- with which reading is over.
 -- The idea: a trail from the beginning shows, at the last step, the reading of the sheet. Assumes nothing.
-use mathlib.Core.Path.{◌≡◌, refl, sym, ◌∙◌, ap, ap₂, subst}
+use mathlib.Core.Path.{◌≡◌, refl, sym, ◌∙◌, ap}
 use mathlib.Core.Bool.{false, not, and-eq-true_iff}
 use mathlib.Core.List.{List}
-use mathlib.Core.Logic.{◌⊎◌, ⊎_elim}
 use Prim.Native.Nat.{ℕ, ◌≤◌}
 use native.Mathlib.Omega.{arith}
 use borrow.Author.Tests.{le-ltb, ltb-false, eqb-false, ne_eqb}
-use denote.Enum.Declared.{tag_of}
 use lib.Dec.{ltb, eqb}
 use lib.ListN.{length}
 use Rattle.whole.proofs.Tests.{by_equal}
@@ -18,7 +16,6 @@ use Rattle.wkb.specs.declared.Step.{Step}
 use Rattle.wkb.specs.declared.Step.TheVariants.{Geometry, Ring, Point, End, Refused}
 use Rattle.wkb.specs.Steps.{start, slot_of, complete, end_at, step_at}
 use Rattle.wkb.proofs.Complete.{is_complete}
-use Rattle.wkb.specs.contracts.Step.{the_type}
 use Rattle.sheet.specs.declared.Build.{Build}
 use Rattle.sheet.specs.declared.Ending.TheVariants.{Sheet, Refused as Refusal}
 use Rattle.sheet.specs.Reading.{Taken, Reading, on, over, nothing, ended, taken, turn, reading_of}
@@ -73,12 +70,6 @@ last_ends s c u l = reading_turns s c u ∙ go (step_at s c) l
     go (Point x y d) l = absurd l
     go (End d) l = refl
     go (Refused code item field d) l = refl
-
--- The tag of the end is 3.
-pub not_the_end : (a : Step) (d : Cursor) → (tag_of the_type a ≡ 0) ⊎ ((tag_of the_type a ≡ 1) ⊎ ((tag_of the_type a ≡ 2) ⊎ (tag_of the_type a ≡ 4))) → a ≡ End d → ⊥
-not_the_end a d t e =
-    let k = subst (λ z. (tag_of the_type z ≡ 0) ⊎ ((tag_of the_type z ≡ 1) ⊎ ((tag_of the_type z ≡ 2) ⊎ (tag_of the_type z ≡ 4)))) e t in
-    ⊎_elim (λ z. omega arith) (⊎_elim (λ z. omega arith) (⊎_elim (λ z. omega arith) (λ z. omega arith))) k
 
 -- ---- the end
 module _ (limit : ℕ) (s numbers : List ℕ) where

@@ -4,11 +4,9 @@
 use mathlib.Core.Path.{◌≡◌, refl, sym, ◌∙◌, ap, ap₂, subst}
 use mathlib.Core.Bool.{Bool, true, false, true≢false}
 use mathlib.Core.List.{List}
-use mathlib.Core.Logic.{◌⊎◌, ⊎_elim}
 use Prim.Native.Nat.{ℕ, zero, suc, ◌+◌, ◌-◌, ◌≤◌, ◌<◌}
 use native.Mathlib.Omega.{arith}
 use borrow.Author.Tests.{ltb-true, ltb-false, lt-ltb, le-ltb}
-use denote.Enum.Declared.{tag_of}
 use lib.Dec.{ltb, eqb}
 use Rattle.whole.proofs.Tests.{by_equal, by_cond}
 use Rattle.wkb_kinds.specs.declared.Slot.{Slot}
@@ -22,7 +20,6 @@ use Rattle.wkb.proofs.Steps.{pops, count_some, popped_own, popped_fourth, popped
 use Rattle.wkb.proofs.Cases.{named_some, by_case}
 use Rattle.wkb.proofs.Complete.{not_complete}
 use Rattle.wkb.proofs.Allowed.{allowed_member, polygon, parts, members}
-use Rattle.wkb.specs.contracts.Step.{the_type}
 use Rattle.sheet.specs.declared.Build.{Build}
 use Rattle.sheet.specs.declared.Turn.{Turn}
 use Rattle.sheet.specs.declared.Turn.TheVariants.{On, Over}
@@ -263,12 +260,12 @@ module _ (s : List ℕ) (depth : ℕ) (c : Cursor) (b : Build) (a : Step) (r : T
       let k : Leads (Geometry kind n x) b (On d f) = subst (λ z. Leads z b (On d f)) g (subst (Leads a b) q l) in
       subst (Holds depth c n) (sym k.0) (step_holds s depth c kind n x h (sym e ∙ g))
 
-  -- and from no other answer: the tags of these are 1 to 4.
-  pub goes_nowhere : (tag_of the_type a ≡ 1) ⊎ ((tag_of the_type a ≡ 2) ⊎ ((tag_of the_type a ≡ 3) ⊎ (tag_of the_type a ≡ 4))) → ⊥
+  -- and from no other answer.
+  pub goes_nowhere : ((kind n : ℕ) (x : Cursor) → a ≡ Geometry kind n x → ⊥) → ⊥
   goes_nowhere = go a (subst (Opens c) (sym e) (step_opens s depth c h)) (rw (← q) l)
     where
-      go : (a : Step) → Opens c a → Leads a b (On d f) → (tag_of the_type a ≡ 1) ⊎ ((tag_of the_type a ≡ 2) ⊎ ((tag_of the_type a ≡ 3) ⊎ (tag_of the_type a ≡ 4))) → ⊥
-      go (Geometry kind n x) o k t = ⊎_elim (λ z. omega arith) (⊎_elim (λ z. omega arith) (⊎_elim (λ z. omega arith) (λ z. omega arith))) t
+      go : (a : Step) → Opens c a → Leads a b (On d f) → ((kind n : ℕ) (x : Cursor) → a ≡ Geometry kind n x → ⊥) → ⊥
+      go (Geometry kind n x) o k t = t kind n x refl
       go (Ring n x) o k t = absurd o
       go (Point p y x) o k t = absurd o
       go (End x) o k t = absurd o

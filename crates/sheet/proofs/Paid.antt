@@ -1,12 +1,12 @@
 -- Each number that is read is paid for with four bytes: a header of 9 bytes adds two at most, a ring's count of 4 bytes one, and a point of 16 bytes three. So the
 -- bytes bound the numbers. Assumes nothing.
 use mathlib.Core.Path.{◌≡◌}
-use mathlib.Core.Bool.{Bool, true, false, not, cond, ◌&&◌}
-use mathlib.Core.List.{List, [], ◌∷◌, ◌++◌}
+use mathlib.Core.Bool.{cond, ◌&&◌}
+use mathlib.Core.List.{List, [], ◌∷◌}
 use Prim.Native.Nat.{ℕ, zero, suc, ◌+◌, ◌*◌, ◌≤◌}
 use native.Mathlib.Omega.{arith}
 use lib.Dec.{eqb}
-use lib.ListN.{length, set, length-append, length-set}
+use lib.ListN.{length, length-append, length-set}
 use Rattle.whole.proofs.Tests.{by_cond}
 use Rattle.sheet_coordinate.specs.Coordinate.{coordinate_of}
 use Rattle.sheet_coordinate.specs.declared.Coordinate.{Coordinate}

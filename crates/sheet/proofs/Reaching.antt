@@ -17,7 +17,7 @@ use Rattle.sheet.specs.declared.Turn.TheVariants.{On}
 use Rattle.sheet.specs.Reading.{Taken, taken}
 use Rattle.sheet.specs.Going.{Shows, Turned, Within, Leads}
 use Rattle.sheet.specs.Rings.{Reaches}
-use Rattle.sheet.proofs.Onward.{Trail, goes_on}
+use Rattle.sheet.proofs.Onward.{goes_on}
 use Rattle.sheet.proofs.Closed.{nearer, goes_nearer}
 
 -- ---- the two fields inside a polygon

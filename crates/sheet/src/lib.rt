@@ -1,4 +1,6 @@
 // A sheet in numbers, read from bytes by steps. Each number is held as itself plus 10,000,000.
+#![tactic(auto)]
+
 ghost use Rattle.std.specs.Prelude.{◌≡◌, cond, List, ℕ, ◌+◌, ◌≤◌, ◌<◌, ◌^◌, ltb, set};
 ghost use Rattle.plane.specs.Corners.{offset};
 ghost use Rattle.sheet.specs.Reading;
@@ -17,7 +19,7 @@ use wkb_kinds::{Kind, Slot};
 
 // What was read so far, beside the numbers themselves: how many there are, where the number of the open member's polygons stands among
 // them, whether the open ring's first point is still to come, and that point.
-#[derive(Drop)]
+#[derive(Clone, Copy)]
 pub struct Build {
     pub fill: usize,
     pub mark: usize,
@@ -27,21 +29,21 @@ pub struct Build {
 }
 
 // Reading goes on from a place, or is over with a code, an item and the byte that the field at fault begins at.
-#[derive(Drop)]
+#[derive(Clone, Copy)]
 pub enum Turn {
     On(Cursor, Build),
     Over(u32, u32, usize),
 }
 
 // A place that was reached, and what was read up to it.
-#[derive(Drop)]
+#[derive(Clone, Copy)]
 pub struct Reached {
     pub place: Cursor,
     pub build: Build,
 }
 
 // How reading ends: with a sheet of so many numbers, or a refusal with its number, its item and the byte that the field at fault begins at.
-#[derive(Drop)]
+#[derive(Clone, Copy)]
 pub enum Ending {
     Sheet(usize),
     Refused(u32, u32, usize),

@@ -1,4 +1,6 @@
 // The double area of each polygon of a sheet in numbers, from its corners alone.
+#![tactic(auto)]
+
 ghost use Rattle.std.specs.Prelude.{◌≡◌, ℕ, length, take};
 ghost use mathlib.Core.List.{flat_map, map};
 ghost use Rattle.std.specs.Int.{w64};
@@ -14,7 +16,7 @@ ghost use Rattle.sheet_areas.specs.Standing.{Place, Sums};
 use plane::OFFSET;
 
 // The double area of what stands at a place, and the place behind it.
-#[derive(Drop)]
+#[derive(Clone, Copy)]
 pub struct Summed {
     pub area: i64,
     pub next: usize,

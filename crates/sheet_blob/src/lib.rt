@@ -1,4 +1,6 @@
 // The header of a GeoPackage geometry blob, read field by field: letters, version, flags, number, envelope.
+#![tactic(auto)]
+
 ghost use Rattle.std.specs.Prelude.{◌≡◌, get_or};
 ghost use Rattle.sheet_blob.specs.Opening.{opening_of, rest_of};
 
@@ -6,7 +8,7 @@ use lent_fields::word;
 use sheet_envelope::Optional;
 
 // A header read: the 32 bits of its reference-system number, where the sheet begins, and its envelope or none.
-#[derive(Drop)]
+#[derive(Clone, Copy)]
 pub struct Opened {
     pub number: u32,
     pub at: usize,
@@ -14,7 +16,7 @@ pub struct Opened {
 }
 
 // What reading a header comes to: the header, or a refusal with its number and position; its item is 0.
-#[derive(Drop)]
+#[derive(Clone, Copy)]
 pub enum Opening {
     Read(Opened),
     Refused(u32, usize),

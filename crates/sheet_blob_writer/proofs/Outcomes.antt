@@ -17,15 +17,15 @@ use Rattle.lent_little.specs.Ordered.{word_at}
 use Rattle.table.specs.Table.{Frame}
 use Rattle.sheet_form.specs.Numbers.{Sheet, members}
 use Rattle.sheet_written.specs.Normal.{written}
-use Rattle.sheet_written.specs.Given.{sheetGiven, writeOutcome}
-use Rattle.sheet_written.proofs.Given.{given-fits}
+use Rattle.sheet_written.specs.Given.{sheet_given, write_outcome}
+use Rattle.sheet_written.proofs.Given.{given_fits}
 use Rattle.sheet_written.proofs.Sized.{written_length, written_small}
 use Rattle.sheet_blob.specs.Blob.{encode_header}
 use Rattle.sheet_blob_written.specs.Normal.{Blob, normal_header, written_blob}
 use Rattle.sheet_framed.specs.Framed.{frame_on}
-use Rattle.sheet_blob_written.specs.Given.{numbered, blobGiven, writeBlob}
+use Rattle.sheet_blob_written.specs.Given.{numbered, blob_given, write_blob}
 use Rattle.sheet_blob_written.proofs.Trip.{forty, blob_length}
-use Rattle.sheet_blob_written.proofs.Given.{given-short, given-long}
+use Rattle.sheet_blob_written.proofs.Given.{given_short, given_long}
 
 -- ---- the end of a list, as a part of it
 pub tail_is : (k : ℕ) (l : List ℕ) → take (length l - k) (drop k l) ≡ drop k l
@@ -40,7 +40,7 @@ pub record Fitted (x : Option Sheet) (room : List ℕ) (r : ℕ) (after : List �
   pub answer : r ≡ length (written sheet) * 256
   pub left : after ≡ written sheet ++ drop (length (written sheet)) room
 
-pub fitted : (x : Option Sheet) (room : List ℕ) (r : ℕ) (after : List ℕ) → Answered (writeOutcome x) room r after → r % 256 ≡ 0 → Fitted x room r after
+pub fitted : (x : Option Sheet) (room : List ℕ) (r : ℕ) (after : List ℕ) → Answered (write_outcome x) room r after → r % 256 ≡ 0 → Fitted x room r after
 fitted none room r after a z = absurd (omega (arith, a.answer))
 fitted (some n) room r after a z = go (leb (length (written n)) (length room)) refl a.answer a.left
   where
@@ -49,59 +49,59 @@ fitted (some n) room r after a z = go (leb (length (written n)) (length room)) r
     go false e p q = absurd (omega arith)
 
 -- A refusal: the sheet doesn't fit where it is given.
-no_room : (x : Option Sheet) (room : List ℕ) (r : ℕ) (after : List ℕ) → Answered (writeOutcome x) room r after → (r % 256 ≡ 0 → ⊥) → (n : Sheet) → x ≡ some n → length room < length (written n)
-no_room x room r after a z n e = go (leb (length (written n)) (length room)) refl (subst (λ y. Answered (writeOutcome y) room r after) e a).answer
+no_room : (x : Option Sheet) (room : List ℕ) (r : ℕ) (after : List ℕ) → Answered (write_outcome x) room r after → (r % 256 ≡ 0 → ⊥) → (n : Sheet) → x ≡ some n → length room < length (written n)
+no_room x room r after a z n e = go (leb (length (written n)) (length room)) refl (subst (λ y. Answered (write_outcome y) room r after) e a).answer
   where
     go : (b : Bool) → leb (length (written n)) (length room) ≡ b → r ≡ cond b (length (written n) * 256) 40 → length room < length (written n)
     go true f p = absurd (z (omega arith))
     go false f p = leb-false (length (written n)) (length room) f
 
 -- So the blob is refused alike, with its room as it was.
-refused_alike : (k : ℕ) (out : List ℕ) (x : Option Sheet) (room : List ℕ) (r : ℕ) (after : List ℕ) → Answered (writeOutcome x) room r after
-    → ((n : Sheet) → x ≡ some n → (length room < length (written n)) × (length out < 40 + length (written n))) → Answered (writeBlob (numbered k x)) out r out × (after ≡ room)
+refused_alike : (k : ℕ) (out : List ℕ) (x : Option Sheet) (room : List ℕ) (r : ℕ) (after : List ℕ) → Answered (write_outcome x) room r after
+    → ((n : Sheet) → x ≡ some n → (length room < length (written n)) × (length out < 40 + length (written n))) → Answered (write_blob (numbered k x)) out r out × (after ≡ room)
 refused_alike k out none room r after a h = (record { answer = a.answer; left = refl }, a.left)
 refused_alike k out (some n) room r after a h =
     let (p, q) = h n refl in
     let b : Blob = record { number = k; sheet = n } in
     let f = lt-leb (length (written n)) (length room) p in
-    let s = answered_short (writeBlob (some b)) out (length (written_blob b)) (written_blob b) refl (omega (arith, blob_length b)) in
+    let s = answered_short (write_blob (some b)) out (length (written_blob b)) (written_blob b) refl (omega (arith, blob_length b)) in
     (record { answer = rw f at a.answer ∙ s.answer; left = s.left }, rw f at a.left)
 
 -- ---- the blob, by the room that there is
 module _ (s out : List ℕ) where
-  pub no_number : length s < 4 → Answered (writeBlob (blobGiven members s)) out 42 out
-  no_number h = answered_refusal (writeBlob (blobGiven members s)) out 42 0 (ap writeBlob (given-short members s h))
+  pub no_number : length s < 4 → Answered (write_blob (blob_given members s)) out 42 out
+  no_number h = answered_refusal (write_blob (blob_given members s)) out 42 0 (ap write_blob (given_short members s h))
 
   module _ (four : 4 ≤ length s) (form : List ℕ) (e : form ≡ drop 4 s) where
-    given : blobGiven members s ≡ numbered (word_at true s 0) (sheetGiven members form)
-    given = given-long members s four ∙ ap (λ t. numbered (word_at true s 0) (sheetGiven members t)) (sym e)
+    given : blob_given members s ≡ numbered (word_at true s 0) (sheet_given members form)
+    given = given_long members s four ∙ ap (λ t. numbered (word_at true s 0) (sheet_given members t)) (sym e)
 
-    some_bytes : (n : Sheet) → sheetGiven members form ≡ some n → 18 ≤ length (written n)
-    some_bytes n q = omega (arith, written_length members n (given-fits members form n q))
+    some_bytes : (n : Sheet) → sheet_given members form ≡ some n → 18 ≤ length (written n)
+    some_bytes n q = omega (arith, written_length members n (given_fits members form n q))
 
     -- No room for the header.
-    pub header_short : (room after : List ℕ) (r : ℕ) → length out < 40 → room ≡ [] → Answered (writeOutcome (sheetGiven members form)) room r after → Answered (writeBlob (blobGiven members s)) out r (after ++ out)
+    pub header_short : (room after : List ℕ) (r : ℕ) → length out < 40 → room ≡ [] → Answered (write_outcome (sheet_given members form)) room r after → Answered (write_blob (blob_given members s)) out r (after ++ out)
     header_short room after r h z a =
-        let (p, q) = refused_alike (word_at true s 0) out (sheetGiven members form) room r after a (λ n f. (omega (arith, ap length z, some_bytes n f), omega (arith, some_bytes n f))) in
+        let (p, q) = refused_alike (word_at true s 0) out (sheet_given members form) room r after a (λ n f. (omega (arith, ap length z, some_bytes n f), omega (arith, some_bytes n f))) in
         rw (given, q, z) p
 
-    module _ (room after : List ℕ) (r : ℕ) (long : 40 ≤ length out) (z : room ≡ mid_of 40 (length out - 40) out) (a : Answered (writeOutcome (sheetGiven members form)) room r after) where
+    module _ (room after : List ℕ) (r : ℕ) (long : 40 ≤ length out) (z : room ≡ mid_of 40 (length out - 40) out) (a : Answered (write_outcome (sheet_given members form)) room r after) where
       room_length : length room ≡ length out - 40
       room_length = ap length (z ∙ tail_is 40 out) ∙ length-drop 40 out
 
       -- The sheet is refused.
-      pub sheet_short : (r % 256 ≡ 0 → ⊥) → Answered (writeBlob (blobGiven members s)) out r (put_mid 40 (length out - 40) out after)
+      pub sheet_short : (r % 256 ≡ 0 → ⊥) → Answered (write_blob (blob_given members s)) out r (put_mid 40 (length out - 40) out after)
       sheet_short f =
-          let (p, q) = refused_alike (word_at true s 0) out (sheetGiven members form) room r after a (λ n g. let k = no_room (sheetGiven members form) room r after a f n g in (k, omega (arith, room_length))) in
-          rw given (subst (Answered (writeBlob (numbered (word_at true s 0) (sheetGiven members form))) out r) (sym (ap (put_mid 40 (length out - 40) out) (q ∙ z) ∙ put_same 40 (length out - 40) out)) p)
+          let (p, q) = refused_alike (word_at true s 0) out (sheet_given members form) room r after a (λ n g. let k = no_room (sheet_given members form) room r after a f n g in (k, omega (arith, room_length))) in
+          rw given (subst (Answered (write_blob (numbered (word_at true s 0) (sheet_given members form))) out r) (sym (ap (put_mid 40 (length out - 40) out) (q ∙ z) ∙ put_same 40 (length out - 40) out)) p)
 
       -- The sheet is written, and then the header.
       module _ (f : r % 256 ≡ 0) where
-        pub done : Fitted (sheetGiven members form) room r after
-        done = fitted (sheetGiven members form) room r after a f
+        pub done : Fitted (sheet_given members form) room r after
+        done = fitted (sheet_given members form) room r after a f
 
         pub fits_answer : r ≤ 256 * 158290
-        fits_answer = let w = done in omega (arith, w.answer, written_small members w.sheet (given-fits members form w.sheet w.is))
+        fits_answer = let w = done in omega (arith, w.answer, written_small members w.sheet (given_fits members form w.sheet w.is))
 
         behind : drop 40 (put_mid 40 (length out - 40) out after) ≡ after
         behind =
@@ -112,8 +112,8 @@ module _ (s out : List ℕ) where
         over_length : 40 ≤ length (put_mid 40 (length out - 40) out after)
         over_length = omega (arith, length-append (take 40 out) (after ++ drop (length out - 40) (drop 40 out)), length-take-le 40 out long)
 
-        pub blob_over : (number : ℕ) (g : Frame) (last : List ℕ) → number ≡ word_at true s 0 → ((n : Sheet) → sheetGiven members form ≡ some n → g ≡ frame_on n)
-            → last ≡ sets (put_mid 40 (length out - 40) out after) 0 (encode_header (normal_header number g)) → Answered (writeBlob (blobGiven members s)) out (r + 10240) last
+        pub blob_over : (number : ℕ) (g : Frame) (last : List ℕ) → number ≡ word_at true s 0 → ((n : Sheet) → sheet_given members form ≡ some n → g ≡ frame_on n)
+            → last ≡ sets (put_mid 40 (length out - 40) out after) 0 (encode_header (normal_header number g)) → Answered (write_blob (blob_given members s)) out (r + 10240) last
         blob_over number g last p q l =
             let w = done in
             let n = w.sheet in
@@ -129,5 +129,5 @@ module _ (s out : List ℕ) where
             first ∙ sets-eq h m 0 (omega (arith, over_length)) ∙ ap (λ x. h ++ drop x m) (let y : 0 + length h ≡ 40 = omega arith in y)
             ∙ ap (λ x. h ++ x) (behind ∙ w.left ∙ ap (λ x. written n ++ x) end) ∙ sym (append_assoc h (written n) (drop (length (written_blob b)) out)) in
             let item : length (written_blob b) * 256 ≡ r + 10240 = omega (arith, w.answer) in
-            subst (λ x. Answered (writeBlob (blobGiven members s)) out x last) item
-            (answered_bytes (writeBlob (blobGiven members s)) out (length (written_blob b)) (written_blob b) (ap writeBlob (given ∙ ap (numbered (word_at true s 0)) w.is)) last (omega (arith, w.fits, room_length)) all)
+            subst (λ x. Answered (write_blob (blob_given members s)) out x last) item
+            (answered_bytes (write_blob (blob_given members s)) out (length (written_blob b)) (written_blob b) (ap write_blob (given ∙ ap (numbered (word_at true s 0)) w.is)) last (omega (arith, w.fits, room_length)) all)

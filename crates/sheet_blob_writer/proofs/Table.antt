@@ -23,7 +23,7 @@ use Rattle.table_check.specs.Framing.{frame_held, wider}
 use Rattle.sheet_form.specs.Numbers.{Sheet, members, point_numbers, triangle_numbers, member_numbers, counted}
 use Rattle.sheet_form.specs.Form.{numbers_in}
 use Rattle.sheet_written.specs.Fits.{origin}
-use Rattle.sheet_written.specs.Given.{sheetGiven}
+use Rattle.sheet_written.specs.Given.{sheet_given}
 use Rattle.sheet_written.proofs.Given.{given_is}
 use Rattle.sheet_written.proofs.Held.{Small, numbers_small}
 use Rattle.sheet_written.proofs.Normal.{from_to_lem, tests}
@@ -36,7 +36,7 @@ count_is : (w t : ℕ) → w < 2 ^ 32 → to_z w32 w ≡ pos t → w ≡ t
 count_is w t h e = by_order w 2_147_483_648 (λ l. let q : pos w ≡ pos t = sym (signed_low w l) ∙ e in cc q) (λ l. let q : negsuc (4_294_967_296 - suc w) ≡ pos t = sym (signed_high w l) ∙ e in let z : ◌≡◌ {A = ℕ} 0 1 = cc q in absurd (omega arith))
 
 -- ---- the sheet that is given
-module _ (s : List ℕ) (n : Sheet) (e : sheetGiven members s ≡ some n) where
+module _ (s : List ℕ) (n : Sheet) (e : sheet_given members s ≡ some n) where
   abbrev rest : List ℤ
   rest = counted member_numbers n.polygons
 

@@ -1,4 +1,6 @@
 // The blob writer: the sheet is written behind the room of a header, which changes nothing where it is refused, and then the header.
+#![tactic(auto)]
+
 ghost use Rattle.std.specs.Prelude.{◌≡◌, true, ◌+◌, ◌*◌, ◌≤◌, ◌<◌, length};
 ghost use Rattle.std.proofs.Math.Option.{some};
 ghost use Rattle.std.proofs.lemmas.List.Edits.{sets};
@@ -10,11 +12,11 @@ ghost use Rattle.lent.specs.Answered.{Answered};
 ghost use Rattle.table_check.specs.Framing.{FrameInRange, frame_held};
 ghost use Rattle.sheet_coordinate.specs.Coordinate.{held_of};
 ghost use Rattle.sheet_form.specs.Numbers.{Sheet, members};
-ghost use Rattle.sheet_written.specs.Given.{sheetGiven};
+ghost use Rattle.sheet_written.specs.Given.{sheet_given};
 ghost use Rattle.sheet_blob.specs.Blob.{encode_header};
 ghost use Rattle.sheet_blob_written.specs.Normal.{normal_header};
 ghost use Rattle.sheet_framed.specs.Framed.{frame_on};
-ghost use Rattle.sheet_blob_written.specs.Given.{blobGiven, writeBlob};
+ghost use Rattle.sheet_blob_written.specs.Given.{blob_given, write_blob};
 ghost use Rattle.sheet_blob_writer.specs.Corners.{point_in, CornerIn};
 
 use lent_fields::word;
@@ -46,8 +48,8 @@ fn corner(form: &[u8], i: usize) -> Corner
 
 // The frame of the table, from its last corner to its first.
 fn frame(form: &[u8]) -> Frame
-    requires { (n : Sheet) × (sheetGiven members form.now ≡ some n) }
-    ensures { FrameInRange result × ((n : Sheet) → sheetGiven members form.now ≡ some n → frame_held result ≡ frame_on n) }
+    requires { (n : Sheet) × (sheet_given members form.now ≡ some n) }
+    ensures { FrameInRange result × ((n : Sheet) → sheet_given members form.now ≡ some n → frame_held result ≡ frame_on n) }
 {
     let mut i = 3 * word(form, 0, true) as usize - 1;
     let last = corner(form, i);
@@ -80,7 +82,7 @@ fn header(number: u32, f: Frame, out: &mut [u8])
 // Writes the normal bytes of the blob that the numbers give, 42 where they give none. With no room for the header the sheet is tried with none at all,
 // so that 42 comes before 40.
 pub fn write(numbers: &[u8], out: &mut [u8]) -> u64
-    ensures { Answered (writeBlob (blobGiven members numbers.now)) out.old result out.new }
+    ensures { Answered (write_blob (blob_given members numbers.now)) out.old result out.new }
 {
     if numbers.len() < 4 {
         return 42;

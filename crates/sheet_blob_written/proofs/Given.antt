@@ -18,19 +18,19 @@ use Rattle.lent_little.proofs.Ordered.{length_bytes}
 use Rattle.lent_fields.proofs.Fields.{Bytes, reads, written, number_fits}
 use Rattle.sheet_form.specs.Numbers.{Sheet, numbers_of}
 use Rattle.sheet_written.specs.Fits.{sheet_fits}
-use Rattle.sheet_written.specs.Given.{sheetGiven}
-use Rattle.sheet_written.proofs.Given.{given-form}
+use Rattle.sheet_written.specs.Given.{sheet_given}
+use Rattle.sheet_written.proofs.Given.{given_form}
 use Rattle.sheet_blob_written.specs.Normal.{Blob}
-use Rattle.sheet_blob_written.specs.Given.{blobForm, numbered, blobGiven}
+use Rattle.sheet_blob_written.specs.Given.{blob_form, numbered, blob_given}
 
 -- ---- by the number of bytes
-pub given-short : (limit : ℕ) (s : List ℕ) → length s < 4 → blobGiven limit s ≡ none
-unfolding blobGiven
-given-short limit s h = rw (lt-leb 4 (length s) h) refl
+pub given_short : (limit : ℕ) (s : List ℕ) → length s < 4 → blob_given limit s ≡ none
+unfolding blob_given
+given_short limit s h = rw (lt-leb 4 (length s) h) refl
 
-pub given-long : (limit : ℕ) (s : List ℕ) → 4 ≤ length s → blobGiven limit s ≡ numbered (word_at true s 0) (sheetGiven limit (drop 4 s))
-unfolding blobGiven
-given-long limit s h = rw (le-leb 4 (length s) h) refl
+pub given_long : (limit : ℕ) (s : List ℕ) → 4 ≤ length s → blob_given limit s ≡ numbered (word_at true s 0) (sheet_given limit (drop 4 s))
+unfolding blob_given
+given_long limit s h = rw (le-leb 4 (length s) h) refl
 
 numbered_is : (k : ℕ) (x : Option Sheet) (b : Blob) → numbered k x ≡ some b → (k ≡ b.number) × (x ≡ some b.sheet)
 numbered_is k none b e = absurd (none-ne-some b e)
@@ -51,21 +51,21 @@ unfolding word_at ordered
 number_back k l h = let r = reads true 4 (bytes 4 k ++ l) 0 k l (omega arith) h refl in (r.number, r.next)
 
 -- Bytes give a blob exactly if its sheet is within the limits, its number has 32 bits, and they are its numbers form.
-pub given-blob : (limit : ℕ) → limit ≤ offset → (s : List ℕ) → Bytes s → (b : Blob) → (blobGiven limit s ≡ some b) ↔ (T (sheet_fits limit b.sheet) × (b.number < 2 ^ 32) × (blobForm b ≡ s))
-given-blob limit l s h b = (to (leb 4 (length s)) refl, from)
+pub given_blob : (limit : ℕ) → limit ≤ offset → (s : List ℕ) → Bytes s → (b : Blob) → (blob_given limit s ≡ some b) ↔ (T (sheet_fits limit b.sheet) × (b.number < 2 ^ 32) × (blob_form b ≡ s))
+given_blob limit l s h b = (to (leb 4 (length s)) refl, from)
   where
-    to : (t : Bool) → leb 4 (length s) ≡ t → blobGiven limit s ≡ some b → T (sheet_fits limit b.sheet) × (b.number < 2 ^ 32) × (blobForm b ≡ s)
+    to : (t : Bool) → leb 4 (length s) ≡ t → blob_given limit s ≡ some b → T (sheet_fits limit b.sheet) × (b.number < 2 ^ 32) × (blob_form b ≡ s)
     to true e q =
         let four = leb-true 4 (length s) e in
-        let (k, x) = numbered_is (word_at true s 0) (sheetGiven limit (drop 4 s)) b (sym (given-long limit s four) ∙ q) in
-        let g = (given-form limit l (drop 4 s) (all_drop (λ b. b < 256) 4 s h) b.sheet).0 x in
+        let (k, x) = numbered_is (word_at true s 0) (sheet_given limit (drop 4 s)) b (sym (given_long limit s four) ∙ q) in
+        let g = (given_form limit l (drop 4 s) (all_drop (λ b. b < 256) 4 s h) b.sheet).0 x in
         (g.0, subst (λ n. n < 2 ^ 32) k (number_below s h four), ap₂ (λ n r. bytes 4 n ++ r) (sym k) g.1 ∙ sym (number_there s h four))
-    to false e q = absurd (none-ne-some b (sym (given-short limit s (leb-false 4 (length s) e)) ∙ q))
+    to false e q = absurd (none-ne-some b (sym (given_short limit s (leb-false 4 (length s) e)) ∙ q))
 
-    from : T (sheet_fits limit b.sheet) × (b.number < 2 ^ 32) × (blobForm b ≡ s) → blobGiven limit s ≡ some b
+    from : T (sheet_fits limit b.sheet) × (b.number < 2 ^ 32) × (blob_form b ≡ s) → blob_given limit s ≡ some b
     from (t, k, e) =
         let r = number_back b.number (flat_map i32 (numbers_of b.sheet)) k in
         let four : 4 ≤ length s = omega (arith, ap length e, length-append (bytes 4 b.number) (flat_map i32 (numbers_of b.sheet)), length_bytes 4 b.number) in
         let d : flat_map i32 (numbers_of b.sheet) ≡ drop 4 s = sym r.1 ∙ ap (drop 4) e in
-        given-long limit s four
-        ∙ ap₂ numbered (ap (λ x. word_at true x 0) (sym e) ∙ r.0) ((given-form limit l (drop 4 s) (all_drop (λ b. b < 256) 4 s h) b.sheet).1 (t, d))
+        given_long limit s four
+        ∙ ap₂ numbered (ap (λ x. word_at true x 0) (sym e) ∙ r.0) ((given_form limit l (drop 4 s) (all_drop (λ b. b < 256) 4 s h) b.sheet).1 (t, d))

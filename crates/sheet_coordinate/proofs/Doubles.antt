@@ -16,9 +16,9 @@ pub and_true : (a b : Bool) → a && b ≡ true → (a ≡ true) × (b ≡ true)
 and_true true b h = (refl, h)
 and_true false b h = absurd (false≢true h)
 
-or-true : (a b : Bool) → a || b ≡ true → (a ≡ true) ⊎ (b ≡ true)
-or-true true b h = inl refl
-or-true false b h = inr h
+or_true : (a b : Bool) → a || b ≡ true → (a ≡ true) ⊎ (b ≡ true)
+or_true true b h = inl refl
+or_true false b h = inr h
 
 beq_true : (s t : Bool) → beq s t ≡ true → s ≡ t
 beq_true true true h = refl
@@ -63,7 +63,7 @@ eq_value (fin s m e) (inf u) t k v h = absurd (false≢true h)
 eq_value (fin s m e) (fin u n g) t k v h =
     let w = and_true (eqb (m * up e * down g) (n * up g * down e)) (beq s u || eqb (m * up e * down g) 0) h in
     let q = cross (m * up e) (n * up g) (down e) (down g) k (down_pos g) (eqb-true _ _ w.0) v.1 in
-    (q, go q (or-true (beq s u) (eqb (m * up e * down g) 0) w.1))
+    (q, go q (or_true (beq s u) (eqb (m * up e * down g) 0) w.1))
   where
     go : m * up e ≡ k * down e → (beq s u ≡ true) ⊎ (eqb (m * up e * down g) 0 ≡ true) → (s ≡ t) ⊎ (k ≡ 0)
     go q (inl b) = inl (beq_true s u b ∙ v.0)
@@ -92,6 +92,8 @@ value_cut (fin s m e) n r v =
     let a : min (m * up e / down e) (2 ^ 63) ≡ nat_abs n = rw c (min-eq_left (le_trans r.size (lit≤ tt))) in
     let b : min (m * up e / down e) (2 ^ 63 - 1) ≡ nat_abs n = rw c (min-eq_left (le_trans r.size (lit≤ tt))) in
     rw (a, b) (signed s n v.1)
+value_cut nan n r v = elim v [ ]
+value_cut (inf _) n r v = elim v [ ]
 
 -- A double that equals n is cut to n.
 pub equal_cut : (x : Float) (n : ℤ) → Within 10_000_000 n → Equals x n → to_signed 63 x ≡ n
@@ -111,6 +113,8 @@ equal_small x n r h = go x (equal_value x n r h)
   where
     go : (x : Float) → Value x (sign n) (nat_abs n) → Small x
     go (fin s m e) v = rw v.0 (mul-le-mul_right (down e) r.size)
+    go nan v = elim v [ ]
+    go (inf _) v = elim v [ ]
 
 -- A small double is cut to a number in range.
 pub small_cut : (x : Float) → Small x → Within 10_000_000 (to_signed 63 x)
@@ -123,6 +127,8 @@ small_cut (fin s m e) h = record { size = go s }
     go : (s : Bool) → nat_abs (cond s (neg_ℤ (pos (min (m * up e / down e) (2 ^ 63)))) (pos (min (m * up e / down e) (2 ^ 63 - 1)))) ≤ 10_000_000
     go true = rw size_neg (le_trans (min-le_left _ _) q)
     go false = le_trans (min-le_left _ _) q
+small_cut nan h = elim h [ ]
+small_cut (inf _) h = elim h [ ]
 
 -- ---- the tests of the range
 
@@ -135,7 +141,7 @@ highest = fin false 78125 (pos 7)
 
 -- a ≤ b, tested as a < b or, by a test p, a = b.
 le_of_or : (a b : ℕ) (p r : Bool) → (p ≡ true → a ≡ b) → ltb a b || (p && r) ≡ true → a ≤ b
-le_of_or a b p r same h = go (or-true (ltb a b) (p && r) h)
+le_of_or a b p r same h = go (or_true (ltb a b) (p && r) h)
   where
     go : (ltb a b ≡ true) ⊎ (p && r ≡ true) → a ≤ b
     go (inl l) = let q = ltb-true a b l in omega arith
@@ -165,11 +171,15 @@ pub small_low : (x : Float) → Small x → le lowest x ≡ true
 unfolding le lt eq
 small_low (fin false m e) h = rw (lt-ltb 0 (10_000_000 * down e + m * up e * 1) (omega (arith, down_pos e))) refl
 small_low (fin true m e) h = or_of_le (m * up e * 1) (10_000_000 * down e) _ (λ q. eq-eqb _ _ (sym q)) (rw mul-one h)
+small_low nan h = elim h [ ]
+small_low (inf _) h = elim h [ ]
 
 pub small_high : (x : Float) → Small x → le x highest ≡ true
 unfolding le lt eq
 small_high (fin false m e) h = or_of_le (m * up e * 1) (10_000_000 * down e) _ (eq-eqb _ _) (rw mul-one h)
 small_high (fin true m e) h = rw (lt-ltb 0 (m * up e * 1 + 10_000_000 * down e) (omega (arith, down_pos e))) refl
+small_high nan h = elim h [ ]
+small_high (inf _) h = elim h [ ]
 
 -- ---- the casts
 
@@ -178,11 +188,15 @@ pub cut_low : (x : Float) → Small x → T (le (fin true 1 (pos 63)) x)
 unfolding le lt eq
 cut_low (fin false m e) h = rw (lt-ltb 0 (2 ^ 63 * down e + m * up e * 1) (omega (arith, down_pos e))) tt
 cut_low (fin true m e) h = rw (lt-ltb (m * up e * 1) (2 ^ 63 * down e) (omega (arith, down_pos e))) tt
+cut_low nan h = elim h [ ]
+cut_low (inf _) h = elim h [ ]
 
 pub cut_high : (x : Float) → Small x → T (lt x (fin false 1 (pos 63)))
 unfolding lt
 cut_high (fin false m e) h = rw (lt-ltb (m * up e * 1) (2 ^ 63 * down e) (omega (arith, down_pos e))) tt
 cut_high (fin true m e) h = rw (lt-ltb 0 (m * up e * 1 + 2 ^ 63 * down e) (omega (arith, down_pos e))) tt
+cut_high nan h = elim h [ ]
+cut_high (inf _) h = elim h [ ]
 
 -- A whole number in range, as a double, is cast back with nothing lost.
 pub back : (n : ℤ) → Within 10_000_000 n → T (in_signed binary64 31 (of_int binary64 n)) × (to_signed 31 (of_int binary64 n) ≡ n)

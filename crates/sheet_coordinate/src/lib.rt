@@ -1,10 +1,12 @@
 // Which doubles are coordinates. A coordinate is held as in crate plane: itself plus 10,000,000.
+#![tactic(auto)]
+
 ghost use Rattle.std.specs.Prelude.{◌≡◌};
 ghost use Rattle.whole.specs.Numbers.{Within};
 ghost use Rattle.sheet_coordinate.specs.Coordinate.{held_of, coordinate_of};
 
 // The number that a coordinate is held as, or that the double is no coordinate.
-#[derive(Drop)]
+#[derive(Clone, Copy)]
 pub enum Coordinate {
     Whole(u32),
     Not,

@@ -1,4 +1,6 @@
 // The edges of one polygon of a sheet in numbers, laid down in two lists of corners: where each edge begins, and where it ends. The corners of its table.
+#![tactic(auto)]
+
 ghost use Rattle.std.specs.Prelude.{◌≡◌, ◌+◌, ◌*◌, ◌<◌, ℤ, length};
 ghost use mathlib.Core.List.{List, flat_map};
 ghost use Rattle.whole.specs.Sums.{All};
@@ -12,7 +14,7 @@ ghost use Rattle.sheet_edges.specs.Standing.{NumbersAt, corner_at, Room, Lays, L
 use plane::{Corner, OFFSET};
 
 // The place behind what was read, and the place behind the edges that are laid down.
-#[derive(Drop)]
+#[derive(Clone, Copy)]
 pub struct Laid {
     pub at: usize,
     pub fill: usize,

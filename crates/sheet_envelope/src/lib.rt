@@ -1,5 +1,7 @@
 // The envelope of a GeoPackage geometry: four doubles in one record, read from the header's bytes and written to them, made around a frame and compared
 // with one.
+#![tactic(auto)]
+
 ghost use Rattle.std.specs.Prelude.{◌≡◌, ◌+◌, ◌^◌, ◌≤◌, ◌<◌, length};
 ghost use Rattle.std.specs.Float.{binary64};
 ghost use Rattle.std.specs.Float.Ieee.{of_int};
@@ -13,7 +15,7 @@ use plane::OFFSET;
 use table_check::Frame;
 
 // The least x, the greatest x, the least y and the greatest y.
-#[derive(Drop)]
+#[derive(Clone, Copy)]
 pub struct Envelope {
     pub left: f64,
     pub right: f64,
@@ -22,7 +24,7 @@ pub struct Envelope {
 }
 
 // The envelope that a header has, or none.
-#[derive(Drop)]
+#[derive(Clone, Copy)]
 pub enum Optional {
     Absent,
     Present(Envelope),

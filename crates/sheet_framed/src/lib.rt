@@ -1,4 +1,6 @@
 // A blob's envelope compared with the frame of the table of a sheet in numbers.
+#![tactic(auto)]
+
 ghost use Rattle.std.specs.Prelude.{◌≡◌, ℕ, ◌*◌, ◌+◌, ◌≤◌, length};
 ghost use Rattle.table_check.specs.Framing.{FrameInRange, frame_held};
 ghost use Rattle.sheet_form.specs.Numbers.{Sheet};

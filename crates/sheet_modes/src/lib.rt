@@ -1,5 +1,7 @@
 // Reading in a mode: 0 and 1 sheets by themselves, 2 and 3 GeoPackage blobs, of the present edition and of the older one, whose rings are turned once the
 // sheet is read.
+#![tactic(auto)]
+
 ghost use Rattle.std.specs.Prelude.{◌≡◌, cond, ℕ, ◌≤◌, length};
 ghost use Rattle.sheet_form.specs.Numbers.{Sheet};
 ghost use Rattle.sheet.specs.Held.{SheetHeld};
@@ -12,7 +14,7 @@ use sheet_envelope::Optional;
 use sheet_form::MEMBERS;
 
 // What stands around a sheet: nothing, or the header of a blob.
-#[derive(Drop)]
+#[derive(Clone, Copy)]
 pub enum Around {
     Nothing,
     Header(Opened),
@@ -20,7 +22,7 @@ pub enum Around {
 
 // How reading in a mode ends: with a sheet of so many numbers and what stands around it, or a refusal with its number, its item and the byte that the field at
 // fault begins at.
-#[derive(Drop)]
+#[derive(Clone, Copy)]
 pub enum Got {
     Sheet(usize, Around),
     Refused(u32, u32, usize),

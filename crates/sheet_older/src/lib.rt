@@ -1,4 +1,6 @@
 // A sheet of the older edition: turns the rings of a sheet in numbers where they stand.
+#![tactic(auto)]
+
 ghost use Rattle.std.specs.Prelude.{◌≡◌, cond, reverse, ℕ, ◌+◌, ◌<◌, pos, length};
 ghost use Rattle.std.specs.Int.Signed.{lt_z};
 ghost use Rattle.whole.specs.Sums.{All};

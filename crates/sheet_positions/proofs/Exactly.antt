@@ -83,12 +83,12 @@ module _ (limit : ℕ) (s : List ℕ) where
         where
           told : Ended (reading_of limit s) → FaultIn limit s code item position
           told (inl z) = absurd (n (sym e.code_is ∙ z.0))
-          told (inr f) = rw (← e.code_is, ← e.item-is, ← e.position-is) f
+          told (inr f) = rw (← e.code_is, ← e.item_is, ← e.position_is) f
 
       from : FaultIn limit s code item position → EndsWith code item position × (code ≡ 0 → ⊥)
       from f =
           let r = fault_ends f in
-          (record { code_is = ap (λ z. z.code) r; item-is = ap (λ z. z.item) r ∙ sym f.named; position-is = ap (λ z. z.position) r }, wrong_code f.wrong)
+          (record { code_is = ap (λ z. z.code) r; item_is = ap (λ z. z.item) r ∙ sym f.named; position_is = ap (λ z. z.position) r }, wrong_code f.wrong)
 
   -- A sheet that is read tells no position.
   pub read_nowhere : (reading_of limit s).code ≡ 0 → (reading_of limit s).position ≡ 0

@@ -1,1 +1,2 @@
 // Where reading is refused stands in specs/; there is no code.
+#![tactic(auto)]

@@ -1,4 +1,6 @@
 // The boundary of a polygon after repair as closed lines, written over lent bytes as a WKB MultiLineString.
+#![tactic(auto)]
+
 ghost use Rattle.std.specs.Prelude.{◌≡◌, true, [], map, ◌+◌, ◌*◌, ◌≤◌, ◌<◌, length};
 ghost use Rattle.std.proofs.lemmas.List.Edits.{sets};
 ghost use Rattle.whole.specs.Sums.{All};
@@ -75,7 +77,7 @@ fn put_lines(numbers: &[u32], order: &[usize], ends: &[usize], out: &mut [u8])
 }
 
 // What repair comes to: so many sides in so many rings, or a refusal, which is passed on.
-#[derive(Drop)]
+#[derive(Clone, Copy)]
 pub enum Joined {
     Rings(usize, usize),
     Refused(u32, u32),

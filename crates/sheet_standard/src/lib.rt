@@ -1,1 +1,2 @@
 // No code: reading accepts exactly the standard's encodings of sheets within the limits.
+#![tactic(auto)]

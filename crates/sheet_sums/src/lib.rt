@@ -1,4 +1,6 @@
 // The double area of one ring off a sheet in numbers, with one product at each corner: its x times the difference of the y after it and the y before it.
+#![tactic(auto)]
+
 ghost use Rattle.std.specs.Prelude.{◌≡◌, List, ◌*◌, ℤ, pos, ◌-ℤ◌, ◌*ℤ◌, length};
 ghost use Rattle.whole.specs.Numbers.{Within};
 ghost use Rattle.plane.specs.Members.{Ring, edges};

@@ -1,1 +1,2 @@
 // The sheet with its rings turned stands in specs/; there is no code.
+#![tactic(auto)]

@@ -57,7 +57,7 @@ module _ {A : Type 0} (f : List ℤ → Front A) where
       last a k none u v e = absurd (none-ne-some _ e)
       last a k (some (o, q)) u v e =
           let p = parts e in
-          record { first = a; behind = k; others = o; one-is = u; others-are = v ∙ ap (λ (z : List ℤ). some (o, z)) p.1; all_are = p.0 }
+          record { first = a; behind = k; others = o; one_is = u; others_are = v ∙ ap (λ (z : List ℤ). some (o, z)) p.1; all_are = p.0 }
 
       go : (x : Front A) → f l ≡ x → after {B = List A × List ℤ} x (λ a k. after (many_in f n k) (λ m q. some (a ∷ m, q))) ≡ some (m, r) → Taken n l m r
       go none u e = absurd (none-ne-some _ e)
@@ -66,15 +66,15 @@ module _ {A : Type 0} (f : List ℤ → Front A) where
   many_length : (n : ℕ) (l : List ℤ) (m : List A) (r : List ℤ) → many_in f n l ≡ some (m, r) → length m ≡ n
   unfolding many_in
   many_length zero l m r e = sym (ap length (parts e).0)
-  many_length (suc n) l m r e = let t = taken n l m r e in sym (ap length t.all_are) ∙ ap suc (many_length n t.behind t.others r t.others-are)
+  many_length (suc n) l m r e = let t = taken n l m r e in sym (ap length t.all_are) ∙ ap suc (many_length n t.behind t.others r t.others_are)
 
   many_only : (g : A → List ℤ) → Only g → (n : ℕ) (l : List ℤ) (m : List A) (r : List ℤ) → many_in f n l ≡ some (m, r) → l ≡ flat_map g m ++ r
   unfolding many_in flat_map
   many_only g only zero l m r e = (parts e).1 ∙ ap (λ z. flat_map g z ++ r) (parts e).0
   many_only g only (suc n) l m r e =
       let t = taken n l m r e in
-      only l t.first t.behind t.one-is
-      ∙ ap (λ z. g t.first ++ z) (many_only g only n t.behind t.others r t.others-are)
+      only l t.first t.behind t.one_is
+      ∙ ap (λ z. g t.first ++ z) (many_only g only n t.behind t.others r t.others_are)
       ∙ sym (append_assoc (g t.first) (flat_map g t.others) r)
       ∙ ap (λ z. flat_map g z ++ r) t.all_are
 
@@ -348,7 +348,9 @@ nothing t l h = rw (table t l) (go (many_in triangle_in t l) refl)
         → cond (from_to 2 1024 t) (ended (followed (joined (record { bytes = sheet_header (get_or l (6 * t) (pos 0)) ++ header true Tin t; points = 0; rest = l })
         (uncounted (emitted (every triangle_fits) (flat_map (λ t. encode (piece_of t))) (λ m. 3 * length m) x))) (emit 4))) none ≡ none
     go none e = no_choice (from_to 2 1024 t) none
-    go (some (m, r)) e = step (from_to 2 1024 t) (every triangle_fits m) _ _ (h m r e)
+    go (some (m, r)) e = step (from_to 2 1024 t) (every triangle_fits m)
+        (record { bytes = sheet_header (get_or l (6 * t) (pos 0)) ++ header true Tin t; points = 0; rest = l })
+        (record { bytes = flat_map (λ t. encode (piece_of t)) m; points = 3 * length m; rest = r }) (h m r e)
 
 sheet_bytes : (n : Sheet)
     → sheet_header (pos (length n.polygons)) ++ header true Tin (length n.table) ++ flat_map (λ t. encode (piece_of t)) n.table ++ flat_map (λ m. encode (member_tree m)) n.polygons

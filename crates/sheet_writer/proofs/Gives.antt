@@ -14,7 +14,7 @@ use lib.Seq.{sets-eq}
 use Rattle.sheet_form.specs.Numbers.{Sheet, members, numbers_of}
 use Rattle.sheet_written.specs.Fits.{sheet_fits}
 use Rattle.sheet_form.specs.Form.{sheet_in, numbers_in}
-use Rattle.sheet_written.specs.Given.{limited, sheetGiven}
+use Rattle.sheet_written.specs.Given.{limited, sheet_given}
 use Rattle.sheet_written.specs.Normal.{written}
 use Rattle.sheet_form.proofs.Form.{form_is}
 use Rattle.sheet_written.proofs.Trip.{form_small}
@@ -39,25 +39,25 @@ given (some m) n e = go (sheet_fits members m) refl e
 
 pub record Seen (s : List ℕ) (r : Walk) : Type 0 where
   pub sheet : Sheet
-  pub is : sheetGiven members s ≡ some sheet
+  pub is : sheet_given members s ≡ some sheet
   pub to_is : r.to ≡ length (written sheet)
 
 module _ (s : List ℕ) where
   -- A length that is no multiple of 4.
-  pub given_odd : (length s % 4 ≡ 0 → ⊥) → sheetGiven members s ≡ none
-  unfolding sheetGiven
+  pub given_odd : (length s % 4 ≡ 0 → ⊥) → sheet_given members s ≡ none
+  unfolding sheet_given
   given_odd h = rw (ne_eqb (length s % 4) 0 h) refl
 
   module _ (fours : length s % 4 ≡ 0) where
-    is_limited : sheetGiven members s ≡ limited members (sheet_in (numbers_in s))
-    unfolding sheetGiven
+    is_limited : sheet_given members s ≡ limited members (sheet_in (numbers_in s))
+    unfolding sheet_given
     is_limited = rw (eq-eqb (length s % 4) 0 fours) refl
 
     -- More numbers than any sheet has.
-    pub given-long : 65800 < length s → sheetGiven members s ≡ none
-    given-long h = go (sheetGiven members s) refl
+    pub given_long : 65800 < length s → sheet_given members s ≡ none
+    given_long h = go (sheet_given members s) refl
       where
-        go : (x : Option Sheet) → sheetGiven members s ≡ x → x ≡ none
+        go : (x : Option Sheet) → sheet_given members s ≡ x → x ≡ none
         go none e = refl
         go (some n) e =
             let g = given (sheet_in (numbers_in s)) n (sym is_limited ∙ e) in
@@ -66,11 +66,11 @@ module _ (s : List ℕ) where
             let l = numbers_length s in
             absurd (omega arith)
 
-    for : emit_sheet (numbers_in s) ≡ written_for (sheetGiven members s)
+    for : emit_sheet (numbers_in s) ≡ written_for (sheet_given members s)
     for = emit_sheet_lem (numbers_in s) ∙ ap written_for (sym is_limited)
 
-    pub ended_ill : (before after : List ℕ) (r : Walk) → Ended (emit_sheet (numbers_in s)) before r after → r.good ≡ false → sheetGiven members s ≡ none
-    ended_ill before after r h g = go (sheetGiven members s) (subst (λ x. Ended x before r after) for h)
+    pub ended_ill : (before after : List ℕ) (r : Walk) → Ended (emit_sheet (numbers_in s)) before r after → r.good ≡ false → sheet_given members s ≡ none
+    ended_ill before after r h g = go (sheet_given members s) (subst (λ x. Ended x before r after) for h)
       where
         go : (x : Option Sheet) → Ended (written_for x) before r after → x ≡ none
         go none k = refl
@@ -78,14 +78,14 @@ module _ (s : List ℕ) where
 
     -- A sheet is given, and the walk tells how long it is.
     pub ended_well : (before after : List ℕ) (r : Walk) → Ended (emit_sheet (numbers_in s)) before r after → r.good ≡ true → Seen s r
-    ended_well before after r h g = go (sheetGiven members s) refl (subst (λ x. Ended x before r after) for h)
+    ended_well before after r h g = go (sheet_given members s) refl (subst (λ x. Ended x before r after) for h)
       where
-        go : (x : Option Sheet) → sheetGiven members s ≡ x → Ended (written_for x) before r after → Seen s r
+        go : (x : Option Sheet) → sheet_given members s ≡ x → Ended (written_for x) before r after → Seen s r
         go none e k = absurd (true≢false (sym g ∙ k.0))
         go (some n) e k = record { sheet = n; is = e; to_is = k.1 }
 
     -- The walk over the lent bytes writes the sheet that is given.
-    pub written_again : (before after : List ℕ) (r : Walk) (n : Sheet) → sheetGiven members s ≡ some n → Ended (emit_sheet (numbers_in s)) before r after → length (written n) ≤ length before
+    pub written_again : (before after : List ℕ) (r : Walk) (n : Sheet) → sheet_given members s ≡ some n → Ended (emit_sheet (numbers_in s)) before r after → length (written n) ≤ length before
         → after ≡ written n ++ drop (length (written n)) before
     written_again before after r n e h fits =
         let k = subst (λ x. Ended (written_for x) before r after) e (subst (λ x. Ended x before r after) for h) in

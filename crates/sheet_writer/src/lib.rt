@@ -1,25 +1,27 @@
 // The writer: walks over the numbers form twice, first with a byte of its own to see that all of it is right and how long it is, then over the lent bytes.
+#![tactic(auto)]
+
 ghost use Rattle.std.specs.Prelude.{◌≡◌, true, false, ◌+◌, ◌*◌, ◌≤◌, ◌<◌, pos, length, drop};
 ghost use Rattle.std.proofs.lemmas.List.Edits.{sets};
 ghost use Rattle.std.specs.Int.{w32};
 ghost use Rattle.std.proofs.Common.{to_z};
 ghost use Rattle.whole.specs.Numbers.{Within};
 ghost use Rattle.lent_little.specs.Ordered.{word_at};
-ghost use Rattle.wkb.specs.Standard.{header as headerOf};
+ghost use Rattle.wkb.specs.Standard.{header as header_of};
 ghost use Rattle.sheet_written.specs.Fits.{in_range, from_to};
 ghost use Rattle.sheet_form.specs.Form.{numbers_in};
 ghost use Rattle.sheet_form.specs.Numbers.{members};
 ghost use Rattle.sheet_written.specs.Normal.{pattern_of};
 ghost use Rattle.sheet_writer.specs.Emit.{low, high, heading, closed, closes as closes_at, emit_point, emit_many, emit, emit_piece, followed, polygon_count, emit_table, emit_sheet};
 ghost use Rattle.sheet_writer.specs.Walks.{beginning, headed, Fair, Went, Ended};
-ghost use Rattle.sheet_written.specs.Given.{sheetGiven, writeOutcome};
+ghost use Rattle.sheet_written.specs.Given.{sheet_given, write_outcome};
 ghost use Rattle.lent.specs.Answered.{Answered};
 
 use sheet_form::MEMBERS;
 use wkb_kinds::Kind;
 
 // Where a walk over the numbers stands: the next number, the next lent byte, the points so far, and that nothing was wrong.
-#[derive(Drop)]
+#[derive(Clone, Copy)]
 pub struct Walk {
     at: usize,
     to: usize,
@@ -73,7 +75,7 @@ fn pattern(b: u32) -> u64
 // Writes a geometry's header, little-endian.
 fn header(out: &mut [u8], to: usize, kind: Kind, n: u32)
     requires { to ≤ 500000 }
-    ensures { out.new ≡ sets out.old to (headerOf true kind n) }
+    ensures { out.new ≡ sets out.old to (header_of true kind n) }
 {
     wkb_header::put(out, to, kind.number(), n);
 }
@@ -353,7 +355,7 @@ fn sheet(numbers: &[u8], out: &mut [u8]) -> Walk
 
 // Writes the normal bytes of the sheet that the numbers give; all of it is walked over first, with a byte of its own. 42 where they give none.
 pub fn write(numbers: &[u8], out: &mut [u8]) -> u64
-    ensures { Answered (writeOutcome (sheetGiven members numbers.now)) out.old result out.new }
+    ensures { Answered (write_outcome (sheet_given members numbers.now)) out.old result out.new }
 {
     if numbers.len() % 4 != 0 {
         return 42;

@@ -23,7 +23,7 @@ use Rattle.lent_little.proofs.Ordered.{bytes_below, number_below, number_bytes, 
 use Rattle.sheet_form.specs.Numbers.{Sheet, numbers_of}
 use Rattle.sheet_form.specs.Form.{sheet_in, numbers_in}
 use Rattle.sheet_written.specs.Fits.{sheet_fits}
-use Rattle.sheet_written.specs.Given.{limited, sheetGiven}
+use Rattle.sheet_written.specs.Given.{limited, sheet_given}
 use Rattle.sheet_form.proofs.Form.{form_is}
 use Rattle.sheet_written.proofs.Held.{Small, numbers_small}
 
@@ -56,14 +56,14 @@ all_back [] h = refl
 all_back (z ∷ l) h = let e = back z h.0 in let r = all_back l h.1 in λ i. e i ∷ r i
 
 -- Four bytes for each number.
-pub form-length : (l : List ℤ) → length (flat_map i32 l) ≡ 4 * length l
+pub form_length : (l : List ℤ) → length (flat_map i32 l) ≡ 4 * length l
 unfolding flat_map bytes
-form-length [] = omega arith
-form-length (z ∷ l) = omega (arith, length-append (i32 z) (flat_map i32 l), form-length l)
+form_length [] = omega arith
+form_length (z ∷ l) = omega (arith, length-append (i32 z) (flat_map i32 l), form_length l)
 
 -- They are bytes.
-pub form-bytes : (l : List ℤ) → All (λ x. x < 256) (flat_map i32 l)
-form-bytes l = all-flat_map (λ z. Unit {0}) (λ x. x < 256) i32 (λ z u. bytes_below 4 (of_z w32 z)) l (all_of (λ z. Unit {0}) (λ z. tt) l)
+pub form_bytes : (l : List ℤ) → All (λ x. x < 256) (flat_map i32 l)
+form_bytes l = all-flat_map (λ z. Unit {0}) (λ x. x < 256) i32 (λ z u. bytes_below 4 (of_z w32 z)) l (all_of (λ z. Unit {0}) (λ z. tt) l)
 
 -- ---- the sheet that is given
 limited_is : (limit : ℕ) (x : Option Sheet) (n : Sheet) → (limited limit x ≡ some n) ↔ (T (sheet_fits limit n) × (x ≡ some n))
@@ -81,8 +81,8 @@ limited_is limit (some m) n = (to (sheet_fits limit m) refl, from)
     from : T (sheet_fits limit n) × (some m ≡ some n) → limited limit (some m) ≡ some n
     from (t, q) = kept (sheet_fits limit m) (subst (λ x. T (sheet_fits limit x)) (sym (some-injective m n q)) t) ∙ q
 
-pub given_is : (limit : ℕ) (s : List ℕ) (n : Sheet) → (sheetGiven limit s ≡ some n) ↔ ((length s % 4 ≡ 0) × T (sheet_fits limit n) × (numbers_of n ≡ numbers_in s))
-unfolding sheetGiven
+pub given_is : (limit : ℕ) (s : List ℕ) (n : Sheet) → (sheet_given limit s ≡ some n) ↔ ((length s % 4 ≡ 0) × T (sheet_fits limit n) × (numbers_of n ≡ numbers_in s))
+unfolding sheet_given
 given_is limit s n = (to (eqb (length s % 4) 0) refl, from)
   where
     to : (b : Bool) → eqb (length s % 4) 0 ≡ b → cond b (limited limit (sheet_in (numbers_in s))) none ≡ some n → (length s % 4 ≡ 0) × T (sheet_fits limit n) × (numbers_of n ≡ numbers_in s)
@@ -92,15 +92,15 @@ given_is limit s n = (to (eqb (length s % 4) 0) refl, from)
     from : (length s % 4 ≡ 0) × T (sheet_fits limit n) × (numbers_of n ≡ numbers_in s) → cond (eqb (length s % 4) 0) (limited limit (sheet_in (numbers_in s))) none ≡ some n
     from (z, t, e) = rw (eq-eqb (length s % 4) 0 z) ((limited_is limit (sheet_in (numbers_in s)) n).1 (t, (form_is (numbers_in s) n).1 e))
 
-pub given-fits : (limit : ℕ) (s : List ℕ) (n : Sheet) → sheetGiven limit s ≡ some n → T (sheet_fits limit n)
-given-fits limit s n e = ((given_is limit s n).0 e).1
+pub given_fits : (limit : ℕ) (s : List ℕ) (n : Sheet) → sheet_given limit s ≡ some n → T (sheet_fits limit n)
+given_fits limit s n e = ((given_is limit s n).0 e).1
 
 -- Bytes give a sheet exactly if it is within the limits and they are its numbers form.
-pub given-form : (limit : ℕ) → limit ≤ offset → (s : List ℕ) → All (λ x. x < 256) s → (n : Sheet) → (sheetGiven limit s ≡ some n) ↔ (T (sheet_fits limit n) × (flat_map i32 (numbers_of n) ≡ s))
-given-form limit l s h n = (to, from)
+pub given_form : (limit : ℕ) → limit ≤ offset → (s : List ℕ) → All (λ x. x < 256) s → (n : Sheet) → (sheet_given limit s ≡ some n) ↔ (T (sheet_fits limit n) × (flat_map i32 (numbers_of n) ≡ s))
+given_form limit l s h n = (to, from)
   where
-    to : sheetGiven limit s ≡ some n → T (sheet_fits limit n) × (flat_map i32 (numbers_of n) ≡ s)
+    to : sheet_given limit s ≡ some n → T (sheet_fits limit n) × (flat_map i32 (numbers_of n) ≡ s)
     to e = let g = (given_is limit s n).0 e in (g.1, ap (flat_map i32) g.2 ∙ fours s g.0 h)
 
-    from : T (sheet_fits limit n) × (flat_map i32 (numbers_of n) ≡ s) → sheetGiven limit s ≡ some n
-    from (t, e) = (given_is limit s n).1 (omega (arith, ap length e, form-length (numbers_of n)), t, sym (all_back (numbers_of n) (numbers_small limit n l t)) ∙ ap numbers_in e)
+    from : T (sheet_fits limit n) × (flat_map i32 (numbers_of n) ≡ s) → sheet_given limit s ≡ some n
+    from (t, e) = (given_is limit s n).1 (omega (arith, ap length e, form_length (numbers_of n)), t, sym (all_back (numbers_of n) (numbers_small limit n l t)) ∙ ap numbers_in e)

@@ -14,10 +14,10 @@ limited limit none = none
 limited limit (some n) = cond (sheet_fits limit n) (some n) none
 
 -- The sheet that bytes give: their length is a multiple of 4, and their numbers make up a sheet within the limits.
-unfoldable pub sheetGiven : ℕ → List ℕ → Option Sheet
-sheetGiven limit s = cond (eqb (length s % 4) 0) (limited limit (sheet_in (numbers_in s))) none
+unfoldable pub sheet_given : ℕ → List ℕ → Option Sheet
+sheet_given limit s = cond (eqb (length s % 4) 0) (limited limit (sheet_in (numbers_in s))) none
 
 -- The normal bytes of the sheet that is given, their number being the item; else 42.
-abbrev pub writeOutcome : Option Sheet → Outcome
-writeOutcome none = refused 42 0
-writeOutcome (some n) = bytes (length (written n)) (written n)
+abbrev pub write_outcome : Option Sheet → Outcome
+write_outcome none = refused 42 0
+write_outcome (some n) = bytes (length (written n)) (written n)

@@ -1,6 +1,11 @@
 // Program `sheetcheck`: reads one sheet of up to 65,536 bytes from standard input (of a longer one, the first 65,536 are read as the whole, and a
 // line on standard error says so), and prints its listing.
-ghost use Rattle.std.specs.Prelude.{◌≡◌, length};
+#![tactic(auto)]
+
+ghost use Rattle.std.specs.Prelude.{◌≡◌, ◌≤◌, length, IfOk};
+
+use std::io;
+use std::io::{Read, Write};
 
 // Room for the longest input, and for the longest listing.
 fn room_to_read() -> [u8; 65536]
@@ -15,25 +20,41 @@ fn room_to_print() -> [u8; 6600]
     [0; 6600]
 }
 
-// Says that the input goes on behind the first 65,536 bytes, where it does.
-fn say_if_cut(n: usize) {
-    let mut next: [u8; 1] = [0];
-    if n == 65_536 && io::read_full(0, &mut next) == 1 {
-        io::write_all(
-            2,
-            b"sheetcheck: the input is longer than 65,536 bytes, and only these were read\n",
-        );
+// Reads until the bytes are full or the input ends, and answers how many there are.
+fn read_full<R: Read>(input: &mut R, bytes: &mut [u8]) -> io::Result<usize>
+    ensures { IfOk result (λ n. n ≤ length bytes.new) }
+{
+    let mut n: usize = 0;
+    while n < bytes.len() {
+        let more = input.read(&mut bytes[n..])?;
+        if more == 0 {
+            return Ok(n);
+        }
+        n += more;
     }
+    Ok(n)
 }
 
-fn main() {
+// Says that the input goes on behind the first 65,536 bytes, where it does.
+fn say_if_cut<R: Read, W: Write>(input: &mut R, said: &mut W, n: usize) -> io::Result<()> {
+    let mut next: [u8; 1] = [0];
+    if n == 65_536 && read_full(input, &mut next)? == 1 {
+        said.write_all(
+            b"sheetcheck: the input is longer than 65,536 bytes, and only these were read\n",
+        )?;
+    }
+    Ok(())
+}
+
+fn main(rt: HostRuntime) -> io::Result<()> {
+    let mut sheet = rt.stdin();
     let mut input = room_to_read();
     let mut text = room_to_print();
-    let n = io::read_full(0, &mut input);
+    let n = read_full(&mut sheet, &mut input)?;
     let answer = sheets::sheet_listing(&input[..n], &mut text);
     let size = (answer / 256) as usize;
     if size <= 6600 {
-        io::write_all(1, &text[..size]);
+        rt.stdout().write_all(&text[..size])?;
     }
-    say_if_cut(n);
+    say_if_cut(&mut sheet, &mut rt.stderr(), n)
 }

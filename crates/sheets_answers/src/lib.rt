@@ -1,4 +1,6 @@
 // The road of the entries that judge, by what is asked: the exported entries only fill it in. Each answers item × 256 + code.
+#![tactic(auto)]
+
 ghost use Rattle.std.specs.Prelude.{◌≡◌, List, [], ℕ, ◌≤◌, length};
 ghost use Rattle.lent.specs.Answered.{Answered, answer_of};
 ghost use Rattle.judged.specs.Judged.{Judged};

@@ -1,4 +1,6 @@
 // The entry that builds the index: for each triangle and side the number of the triangle with the reversed side, once the table has passed the rules.
+#![tactic(auto)]
+
 ghost use Rattle.lent.specs.Answered.{Answered};
 ghost use Rattle.sheet_form.specs.Numbers.{Sheet, members};
 ghost use Rattle.sheet.specs.Held.{SheetHeld};

@@ -1,4 +1,6 @@
 // The printed listing of a sheet as the exported entry answers it: item × 256 + code.
+#![tactic(auto)]
+
 ghost use Rattle.lent.specs.Answered.{Answered};
 ghost use Rattle.outcomes.specs.Entries.{sheet_listing_by};
 

@@ -1,4 +1,6 @@
 // What is told of a sheet that is read and not judged: its numbers, and the double areas of its polygons. Each answers item × 256 + code.
+#![tactic(auto)]
+
 ghost use mathlib.Core.List.{◌++◌, flat_map};
 ghost use Rattle.std.specs.Prelude.{◌+◌, ◌*◌, ◌≤◌, length, take};
 ghost use Rattle.lent.specs.Answered.{Answered, bytes};

@@ -1,4 +1,6 @@
 // The entry that says where in the file: the answer of the numbers entry with room enough, and the byte position of the field at fault.
+#![tactic(auto)]
+
 ghost use Rattle.std.specs.Prelude.{◌≡◌, length};
 ghost use Rattle.lent.specs.Answered.{Answered};
 ghost use Rattle.sheet_modes.specs.Held.{around_of};

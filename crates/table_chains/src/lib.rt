@@ -1,4 +1,6 @@
 // The sides of a table hung in chains by the corner at which they begin: the first side of an earlier triangle (rule B), and the side across each side.
+#![tactic(auto)]
+
 ghost use Rattle.std.specs.Prelude.{◌≡◌, ℕ, suc, ◌-◌, ◌%◌, ◌≤◌, ◌<◌, length, get_or};
 ghost use Rattle.whole.specs.Tests.{Told};
 ghost use Rattle.whole.specs.Sums.{All};

@@ -1,4 +1,6 @@
 // The frame of a table, and the table rules in their order: 10 over all triangles, then 11, then 12. Where they pass, corners and sides can be looked up.
+#![tactic(auto)]
+
 ghost use Rattle.std.specs.Prelude.{◌≡◌, true, [], ℕ, ◌≤◌, length};
 ghost use Rattle.whole.specs.Numbers.{smaller, greater};
 ghost use Rattle.whole.specs.Sums.{All};
@@ -16,14 +18,14 @@ ghost use Rattle.table_check.specs.Checking.{Tableable, CheckOf};
 use plane::{Corner, OFFSET};
 
 // What the check of a table comes to: it passes, with so many different corners; or a refusal with its number and item.
-#[derive(Drop)]
+#[derive(Clone, Copy)]
 pub enum Check {
     Passed(usize),
     Refused(u32, u32),
 }
 
 // The frame's four bounds, each coordinate as it is held.
-#[derive(Drop)]
+#[derive(Clone, Copy)]
 pub struct Frame {
     pub left: u32,
     pub low: u32,

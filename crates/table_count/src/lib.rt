@@ -1,4 +1,6 @@
 // What counting the boundary of edges at each side of the table needs: where an edge is cut, and the number of a side.
+#![tactic(auto)]
+
 ghost use Rattle.std.specs.Prelude.{◌≡◌, List, ◌≤◌, ◌<◌, length, get_or};
 ghost use Rattle.whole.specs.Sums.{All};
 ghost use Rattle.plane.specs.Points.{Edge};

@@ -1,4 +1,6 @@
 // The sides of a table made ready to be looked up: the code of each, the sides in chains, the side across each side, and the first side of an earlier triangle (rule B).
+#![tactic(auto)]
+
 ghost use Rattle.std.specs.Prelude.{◌≡◌, [], ℕ, ◌*◌, ◌≤◌, ◌<◌, length, get_or};
 ghost use Rattle.whole.specs.Tests.{Told};
 ghost use Rattle.whole.specs.Sums.{All};

@@ -1,4 +1,6 @@
 // Labels of triangles compared with the counts at sides: at all of them, or at some.
+#![tactic(auto)]
+
 ghost use Rattle.std.specs.Prelude.{◌≡◌, ℕ, suc, ◌/◌, ◌≤◌, ◌<◌, length};
 ghost use Rattle.whole.specs.Tests.{Told};
 ghost use Rattle.whole.specs.Sums.{All, bit};

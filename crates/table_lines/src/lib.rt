@@ -1,4 +1,6 @@
 // Edges by the straight line they lie on: where the edges of a line begin and end, among the table's corners.
+#![tactic(auto)]
+
 ghost use Rattle.std.specs.Prelude.{◌≡◌, ◌⊎◌, true, false, cond, ℕ, ◌+◌, ◌≤◌, ◌<◌, T, length, get_or, set, take};
 ghost use Rattle.table_lines.specs.declared.Span.{Span};
 ghost use Rattle.whole.specs.Sums.{All};
@@ -41,7 +43,7 @@ fn note(corners: &[u64], u: u64, marks: &mut [u32]) -> usize
 }
 
 // Places from low on and before stop.
-#[derive(Drop)]
+#[derive(Clone, Copy)]
 pub struct Span {
     pub low: usize,
     pub stop: usize,

@@ -1,4 +1,6 @@
 // Pairs of corners that come one by one and cancel: a pair is open until its reverse comes.
+#![tactic(auto)]
+
 ghost use Rattle.std.specs.Prelude.{◌≡◌, ℕ, ◌+◌, ◌≤◌, ◌<◌, length, get_or, take};
 ghost use Rattle.whole.specs.Tests.{Told};
 ghost use Rattle.plane.specs.Keys.{pairs};

@@ -1,4 +1,6 @@
 // The neighbours of a table's triangles, kept beside it as bytes: written over lent ones, and compared with an index that is lent.
+#![tactic(auto)]
+
 ghost use Rattle.std.specs.Prelude.{◌≡◌, true, cond, [], ◌∷◌, ◌++◌, ◌+◌, ◌*◌, ◌≤◌, ◌<◌, length, get_or, drop};
 ghost use Rattle.lent.specs.Answered.{Answered};
 ghost use Rattle.table_neighbours.specs.Neighbours.{u16, same_bytes};

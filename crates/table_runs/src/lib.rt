@@ -1,5 +1,7 @@
 // Counting by lines: the edges of a line are marked where they begin and end, and a running sum along the line is the net count of each pair of corners that
 // follow one another there.
+#![tactic(auto)]
+
 ghost use Rattle.std.specs.Prelude.{◌≡◌, true, false, List, ◌+◌, ◌≤◌, ◌<◌, T, length, get_or};
 ghost use Rattle.whole.specs.Tests.{Told};
 ghost use Rattle.whole.specs.Sums.{All};

@@ -1,4 +1,6 @@
 // The code of a side of a table by its two corners, and the number of the side with a code, looked up along the chain of the corner at which it begins.
+#![tactic(auto)]
+
 ghost use Rattle.std.specs.Prelude.{◌≡◌, ◌+◌, ◌*◌, ◌/◌, ◌≤◌, ◌<◌, length, get_or};
 ghost use Rattle.table_sides.specs.Chains.{next_in, code_in, head_in, Last, Chained};
 

@@ -1,4 +1,6 @@
 // Labels that spread: from the sides that a polygon touches, across the sides that it doesn't, and the last comparison at the touched sides.
+#![tactic(auto)]
+
 ghost use Rattle.std.specs.Prelude.{◌≡◌, Bool, true, false, List, ℕ, ◌+◌, ◌*◌, ◌/◌, ◌≤◌, ◌<◌, length, get_or, take, replicate};
 ghost use Rattle.whole.specs.Sums.{All};
 ghost use Rattle.whole.specs.Tests.{Told};

@@ -1,5 +1,7 @@
 // The boundary of edges, cut at the table's corners, counted at each side of the table; the pieces that are no sides must cancel. Edges that are sides are counted at
 // once; where one isn't, all edges are counted by lines.
+#![tactic(auto)]
+
 ghost use Rattle.std.specs.Prelude.{◌≡◌, ◌||◌, List, ℕ, ◌+◌, ◌≤◌, ◌<◌, length, get_or};
 ghost use Rattle.whole.specs.Tests.{Told};
 ghost use Rattle.whole.specs.Sums.{All};

@@ -1,4 +1,6 @@
 // Counting by lines with edges whose ends may be off the table: the loose pieces before the first corner and behind the last are taken off and must cancel.
+#![tactic(auto)]
+
 ghost use Rattle.std.specs.Prelude.{◌≡◌, cond, false, ◌⊎◌, List, ◌++◌, ℕ, ◌+◌, ◌-◌, ◌*◌, ◌≤◌, ◌<◌, eqb, ltb, length, get_or, take};
 ghost use Rattle.whole.specs.Tests.{Told};
 ghost use Rattle.plane.specs.Points.{Edge};
@@ -111,7 +113,7 @@ fn pick(p: u64, q: u64, x: u64, y: u64) -> u64
 }
 
 // What is left of an edge: where it begins and where it ends.
-#[derive(Drop)]
+#[derive(Clone, Copy)]
 pub struct Rest {
     pub from: u64,
     pub to: u64,

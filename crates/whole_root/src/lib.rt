@@ -1,4 +1,6 @@
 // The whole root of a number: the largest whole number whose square is at most the number.
+#![tactic(auto)]
+
 ghost use Rattle.std.specs.Prelude.{◌≡◌, ◌^◌, ◌<◌};
 ghost use Rattle.whole_root.specs.Root.{root};
 

@@ -7,7 +7,7 @@ use Prim.Native.Nat.{ℕ, ◌+◌, ◌≤◌, ◌<◌}
 use native.Mathlib.Omega.{arith}
 use borrow.Author.Tests.{ltb-true, ltb-false, leb-true, leb-false, eqb-true, eqb-false}
 use lib.Dec.{T, leb, ltb, eqb}
-use lib.ListN.{length, get_or}
+use lib.ListN.{length}
 use Rattle.whole.proofs.Tests.{by_equal, by_cond}
 use Rattle.lent_little.specs.Ordered.{remains, word_at, double_at}
 use Rattle.wkb_kinds.specs.declared.Slot.{Slot}
@@ -15,7 +15,7 @@ use Rattle.wkb_kinds.specs.declared.Slot.TheVariants.{Sheet, Table, Piece, Part,
 use Rattle.wkb.specs.declared.Cursor.{Cursor}
 use Rattle.wkb.specs.declared.Step.{Step}
 use Rattle.wkb.specs.declared.Step.TheVariants.{Geometry, Ring, Point, End, Refused}
-use Rattle.wkb.specs.Faults.{EndDue, HeaderDue, order_at, type_at, count_at, Ordered, Typed, Fault, point_cut, ring_cut, ring_count, past, surplus, order_cut, order, type_cut, type, count_cut, count}
+use Rattle.wkb.specs.Faults.{EndDue, HeaderDue, order_at, type_at, count_at, Ordered, Typed, Fault, point_cut, ring_cut, ring_count, past, order_cut, order, type_cut, type, count_cut, count}
 use Rattle.wkb.specs.Steps.{slot_of, complete, crowded, deep, kind_fault, count_fits, opened, refusal, ring_fits, with_points, after_point, geometry_at, ring_at, point_at, end_at, step_at}
 
 -- A test that is passed.

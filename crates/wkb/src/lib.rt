@@ -1,4 +1,6 @@
 // The binary form of OGC Simple Features, read by steps. A step takes the reading place and hands back the next one.
+#![tactic(auto)]
+
 ghost use Rattle.std.specs.Prelude.{◌≡◌, ◌+◌, ◌-◌, ◌^◌, ◌<◌, true};
 ghost use Rattle.wkb.specs.Steps.{start, complete, renewed, count_fits, popped, with_rings, with_parts, with_members, with_sheet, fewer_parts, opened, refusal, geometry_at, ring_fits, with_points, ring_at, after_point, point_at, end_at, step_at, told_at};
 
@@ -6,7 +8,7 @@ use lent_fields::{double, remain, word};
 use wkb_kinds::{Kind, Slot};
 
 // A reading place: where it stands, the member it names, and what is still to come there.
-#[derive(Drop)]
+#[derive(Clone, Copy)]
 pub struct Cursor {
     // the byte it stands at
     pub at: usize,
@@ -36,7 +38,7 @@ pub struct Cursor {
 
 // What a step answers, each with the next place: a geometry opened with its type and count, a ring with its count, a point with its two
 // doubles as they stand, the end, or a refusal with its number, its item and the byte that the field at fault begins at.
-#[derive(Drop)]
+#[derive(Clone, Copy)]
 pub enum Step {
     Geometry(u32, u32, Cursor),
     Ring(u32, Cursor),
@@ -46,7 +48,7 @@ pub enum Step {
 }
 
 // A step's answer with the byte that the step began at.
-#[derive(Drop)]
+#[derive(Clone, Copy)]
 pub struct Told {
     pub began: usize,
     pub step: Step,

@@ -1,10 +1,12 @@
 // The kinds of geometry with their type numbers, which geometry stands at a place, and what is wrong with a type there.
+#![tactic(auto)]
+
 ghost use Rattle.std.specs.Prelude.{◌≡◌};
 ghost use Rattle.wkb_kinds.specs.Kinds.{type_of, slot_at};
 ghost use Rattle.wkb_kinds.specs.Types.{crowded_at, deep_at, fault_at};
 
 // The kinds of geometry; their type numbers are the constants.
-#[derive(Drop)]
+#[derive(Clone, Copy)]
 pub enum Kind {
     Polygon,
     MultiPolygon,
@@ -43,7 +45,7 @@ impl Kind {
 }
 
 // Which geometry stands at a place: the sheet, the table, a piece of it, a part of a MultiPolygon, or a member at some depth.
-#[derive(Drop)]
+#[derive(Clone, Copy)]
 pub enum Slot {
     Sheet,
     Table,

@@ -16,7 +16,7 @@ indexed_spec =
     (λ c. search rules)
     (λ c. search rules)
     (λ c. search rules)
-    (λ c. sym (length-take-le _ _ (omega (arith, c.before.if2.false))))
+    (λ c. sym (length-take-le _ _ (omega (arith, c.if-rest-size.false))))
     (λ c. search rules)
     (λ c. search rules)
     (λ c. search rules)

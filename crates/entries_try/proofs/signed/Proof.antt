@@ -20,16 +20,16 @@ below n low high = go (pos n -ℤ pos 4_294_967_296) (is_add (pos n) (neg_ℤ (p
     go (pos a) e = record { sfits = omega arith }
     go (negsuc a) e = record { sfits = omega arith }
 
-sub_result : tie.Need-overflow-sub-result
+sub_result : tie.Need-overflow_sub-result
 sub_result c =
-    let n = c.before.args.n in
-    rw (to_z_pos w64 n (omega (arith, c.before.requires))) (within_fits 4_294_967_296 _ (lit< tt) (within_gap 4_294_967_296 4_294_967_296 n (omega arith) (omega (arith, c.before.requires))))
+    let n = c.args.n in
+    rw (to_z_pos w64 n (omega (arith, c.requires))) (within_fits 4_294_967_296 _ (lit< tt) (within_gap 4_294_967_296 4_294_967_296 n (omega arith) (omega (arith, c.requires))))
 
-cast_result_3 : tie.Need-overflow-cast-result-3
+cast_result_3 : tie.Need-overflow_cast-result-3
 cast_result_3 c =
-    let n = c.before.args.n in
-    rw (to_z_pos w64 n (omega (arith, c.before.requires)), exact 4_294_967_296 (pos n -ℤ pos 4_294_967_296) (lit< tt) (within_gap 4_294_967_296 4_294_967_296 n (omega arith) (omega (arith, c.before.requires))))
-    (below n (omega (arith, c.if1.false)) (omega (arith, c.before.requires)))
+    let n = c.args.n in
+    rw (to_z_pos w64 n (omega (arith, c.requires)), exact 4_294_967_296 (pos n -ℤ pos 4_294_967_296) (lit< tt) (within_gap 4_294_967_296 4_294_967_296 n (omega arith) (omega (arith, c.requires))))
+    (below n (omega (arith, c.if-n-lt2147483648.false)) (omega (arith, c.requires)))
 
 pub signed_spec : {M : Type 1} → statement M
 signed_spec = tie.close (tie.spec (λ c. search rules) (λ c. search rules) (λ c. search rules) sub_result cast_result_3 (λ c. search rules))

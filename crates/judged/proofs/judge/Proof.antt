@@ -16,13 +16,13 @@ use Rattle.judged.proofs.judge.Statement.{statement}
 use Rattle.judged.proofs.judge.Tie as tie
 
 -- ---- places: the entry of the function, and the call of `judge_over`
-abbrev start : tie.After-shared-slice-known3 → tie.Start
+abbrev start : tie.After-shared_slice_known-3-1 → tie.Start
 start c = c.before.before.before.before.before
 
-abbrev entry : tie.After-judge-over-arg2 → tie.Start
+abbrev entry : tie.After-judge_over-arg-2-1 → tie.Start
 entry c = start c.before.before
 
-abbrev judge_over_call : tie.After-slice-known4 → tie.After-judge-over
+abbrev judge_over_call : tie.After-slice_known-4-1 → tie.After-judge_over
 judge_over_call c = c.before.before.before.before
 
 -- The number of triangles, off the first number: at most 1,024.
@@ -57,25 +57,25 @@ sets_front o = length-take-le (many o) o.args.sets.now (sets_room o)
 opposite_front : (o : tie.Start) → length (take (3 * many o) o.args.opposite.now) ≡ 3 * many o
 opposite_front o = length-take-le (3 * many o) o.args.opposite.now (opposite_room o)
 
-judge_over_requires : tie.Need-judge-over-requires
+judge_over_requires : tie.Need-judge_over-requires
 judge_over_requires c κs =
     let o = entry c in
-    ((o.pre.0.0, o.pre.0.1, omega (arith, (first o).1, sets_front o)), opposite_front o ∙ ap (λ t. 3 * t) (sym (sets_front o)))
+    ((o.requires.0.0, o.requires.0.1, omega (arith, (first o).1, sets_front o)), opposite_front o ∙ ap (λ t. 3 * t) (sym (sets_front o)))
 
 returns : tie.Need-returns
 returns c = λ n held.
     let d = judge_over_call c in
     let o = entry d.before in
     let e : length n.table ≡ many o = omega (arith, (first_count n o.args.numbers.now held).1) in
-    let k = d.judge-over.kept.1.1.1.1 in
-    on_fronts (lent_if o.args.indexed o.args.lent.now) (framed (around_of o.args.around) n) n d.judge-over.result _ _ (drop (3 * many o) o.args.opposite.now) (drop (many o) o.args.sets.now) (d.judge-over.ensures n held (e ∙ sym (sets_front o)))
-    (k.0 ∙ opposite_front o ∙ ap (λ t. 3 * t) (sym e)) (k.1.0 ∙ sets_front o ∙ sym e)
+    let k = d.judge_over.auto in
+    on_fronts (lent_if o.args.indexed o.args.lent.now) (framed (around_of o.args.around) n) n d.judge_over.result _ _ (drop (3 * many o) o.args.opposite.now) (drop (many o) o.args.sets.now) (d.judge_over.ensures n held (e ∙ sym (sets_front o)))
+    (k.opposite ∙ opposite_front o ∙ ap (λ t. 3 * t) (sym e)) (k.sets ∙ sets_front o ∙ sym e)
 
 pub judge_spec : {M : Type 1} → statement M
 judge_spec =
     tie.close
     (tie.spec
-    (λ c. (first (start c)).0)
+    (λ c. (first c.before.before.before.before.before).0)
     (λ c. omega (arith, (first (start c)).1))
     (λ c. omega (arith, few (start c)))
     (λ c. omega (arith, few (start c)))

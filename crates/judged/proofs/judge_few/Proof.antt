@@ -9,7 +9,7 @@ use Rattle.judged.proofs.judge_few.Statement.{statement}
 use Rattle.judged.proofs.judge_few.Tie as tie
 
 -- ---- places: the entry of the function, where there are at most 192 sides
-abbrev start : tie.After-keys → tie.Start
+abbrev start : tie.After-keys-1 → tie.Start
 start c = c.before.before.before.before.before
 
 few : (o : tie.Start) → length o.args.opposite.now ≤ 192
@@ -18,8 +18,8 @@ few o = omega (arith, o.requires.1, o.requires.2)
 front : (o : tie.Start) → length (take (length o.args.opposite.now) (replicate {A = ℕ} 192 0)) ≡ 3 * length o.args.sets.now
 front o = length-take-le (length o.args.opposite.now) (replicate 192 0) (omega (arith, few o)) ∙ o.requires.1
 
-judge_in_requires : tie.Need-judge-in-requires
-judge_in_requires c κs = let o = start c.before.before.before.before in let w = front o in (o.pre.0, record { keys = w; ordered = w; index = w; opposite = o.pre.1 })
+judge_in_requires : tie.Need-judge_in-requires
+judge_in_requires c κs = let o = start c.before.before.before.before in let w = front o in (o.requires.0, record { keys = w; ordered = w; index = w; opposite = o.requires.1 })
 
 pub judge_few_spec : {M : Type 1} → statement M
 judge_few_spec =

@@ -9,15 +9,15 @@ use lib.ListN.{length, get_or, set, replicate, length-set, length-replicate, get
 use Rattle.judged_sets.proofs.clear.Statement.{statement}
 use Rattle.judged_sets.proofs.clear.Tie as tie
 
-abbrev invariant_loop : tie.invariant_loop
+abbrev invariant_loop : tie.invariant-loop-i
 invariant_loop sets₀ i₀ sets i = (length sets ≡ length sets₀) × (i ≤ length sets) × ((j : ℕ) → j < i → get_or sets j 0 ≡ 0)
 
-abbrev decreases_loop : tie.decreases_loop
+abbrev decreases_loop : tie.decreases-loop-i
 decreases_loop sets₀ i₀ sets i = length sets - i
 
-loop_again : tie.Need-loop-preserved invariant_loop decreases_loop
+loop_again : tie.Need-loop-i-preserved invariant_loop decreases_loop
 loop_again c =
-    let l = c.before.loop in
+    let l = c.loop-i in
     let e = length-set l.sets l.i 0 in (
       e ∙ l.invariant.0,
       omega arith,
@@ -26,8 +26,8 @@ loop_again c =
 
 returns : tie.Need-returns invariant_loop decreases_loop
 returns c =
-    let l = c.before.loop in
-    let n = length c.before.before.args.sets.now in
+    let l = c.loop-i in
+    let n = length c.args.sets.now in
     ext_get_or 0 l.sets (replicate n 0) (l.invariant.0 ∙ sym (length-replicate n 0)) (λ j h. l.invariant.2 j (omega arith) ∙ sym (get_or-replicate n j 0 0 (omega arith)))
 
 pub clear_spec : {M : Type 1} → statement M
@@ -40,7 +40,7 @@ clear_spec =
     (λ c. search rules)
     (λ c. search rules)
     (λ c. omega arith)
-    (λ c. let e = length-set c.before.loop.sets c.before.loop.i 0 in omega arith)
+    (λ c. let e = length-set c.loop-i.sets c.loop-i.i 0 in omega arith)
     loop_again
-    (λ c. c.before.loop.invariant.0)
+    (λ c. c.loop-i.invariant.0)
     returns)

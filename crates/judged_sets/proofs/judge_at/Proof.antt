@@ -11,33 +11,33 @@ use Rattle.judged_sets.proofs.judge_at.Statement.{statement}
 use Rattle.judged_sets.proofs.judge_at.Tie as tie
 
 -- ---- places: the entry of the function, and the call of `polygon`
-abbrev start : tie.After-polygon → tie.Start
+abbrev start : tie.After-polygon-laid → tie.Start
 start c = c.before.before.before.before.before.before.before.before.before.before.before.before.before
 
-abbrev polygon_call : tie.After-slice-known8 → tie.After-polygon
+abbrev polygon_call : tie.After-slice_known-8-1 → tie.After-polygon-laid
 polygon_call c = c.before.before.before.before
 
 -- The edges stand at the fronts of both lists.
-room : (c : tie.After-slice-known8) → let d = (polygon_call c).polygon in (d.result.fill ≤ length d.last.1.1.0) × (d.result.fill ≤ length d.last.1.1.1.0)
-room c = let p = (start (polygon_call c)).requires in laid_room (polygon_call c).polygon.ensures p.2.2 p.3 p.4
+room : (c : tie.After-slice_known-8-1) → let d = (polygon_call c).polygon-laid in (d.result.fill ≤ length d.new.from) × (d.result.fill ≤ length d.new.to)
+room c = let p = (start (polygon_call c)).requires in laid_room (polygon_call c).polygon-laid.ensures p.2.2 p.3 p.4
 
-polygon_requires : tie.Need-polygon-requires
+polygon_requires : tie.Need-polygon-laid-requires
 polygon_requires c κs =
-    let o = c.before.before.before.before.before.before.before.before.before.before.before.before in
+    let o = c in
     let p = o.requires in
     record { held = p.1; thing = p.2.0; rest = p.2.1; numbers_at = p.2.2.numbers_at; from_room = omega (arith, edges_room o.args.from.now p.2.2 p.3); to_room = omega (arith, edges_room o.args.to.now p.2.2 p.4) }
 
-judge_requires : tie.Need-judge-requires
+judge_requires : tie.Need-judge-judging-requires
 judge_requires c κs =
-    let d = polygon_call c.before.before.before.before.before.before in
-    let p = (start d).pre in
-    (p.0, laid_edged d.polygon.ensures p.2.2 p.3 p.4)
+    let d = polygon_call c.before.before.before.before in
+    let p = (start d).requires in
+    (p.0, laid_edged d.polygon-laid.ensures p.2.2 p.3 p.4)
 
 returns : tie.Need-returns
 returns c = λ keys m rest w q s.
     let j = c.before.before.before.before.before.before.before.before in
-    let d = (polygon_call j.before.before.before.before.before.before.before).polygon.ensures in
-    record { judged = j.judge.ensures keys m w q (d.edges m rest s.numbers_at); behind = d.behind m rest s.numbers_at }
+    let d = (polygon_call j.before.before.before.before.before).polygon-laid.ensures in
+    record { judged = j.judge-judging.ensures keys m w q (d.edges m rest s.numbers_at); behind = d.behind m rest s.numbers_at }
 
 pub judge_at_spec : {M : Type 1} → statement M
 judge_at_spec =
@@ -45,9 +45,9 @@ judge_at_spec =
     (tie.spec
     polygon_requires
     (λ c. (room c).0)
-    (λ c. sym (length-take-le _ _ (room c.before).0))
-    (λ c. (room c.before).1)
-    (λ c. sym (length-take-le _ _ (room c.before.before).1))
+    (λ c. sym (length-take-le _ _ (room c).0))
+    (λ c. (room c).1)
+    (λ c. sym (length-take-le _ _ (room c).1))
     judge_requires
     (λ c. search rules)
     (λ c. search rules)

@@ -12,29 +12,29 @@ use Rattle.judged_sets.proofs.judge_in.Tie as tie
 abbrev entry : tie.After-clear → tie.Start
 entry c = c.before.before.before.before.before.before.before.before.before.before.before.before.before
 
-abbrev clear_call : tie.After-polygons-arg7 → tie.After-clear
+abbrev clear_call : tie.After-polygons-arg-7-1 → tie.After-clear
 clear_call c = c.before.before.before.before.before.before.before.before.before
 
-abbrev polygons_call : tie.After-slice-known15 → tie.After-polygons
+abbrev polygons_call : tie.After-slice_known-15-1 → tie.After-polygons
 polygons_call c = c.before.before.before.before.before.before.before.before.before.before.before.before.before.before
 
 -- As many empty sets as were lent.
-cleared : (c : tie.After-clear) → length c.clear.new.0 ≡ length (entry c).args.sets.now
+cleared : (c : tie.After-clear) → length c.clear.new.sets ≡ length (entry c).args.sets.now
 cleared c = ap length c.clear.ensures ∙ length-replicate (length (entry c).args.sets.now) 0
 
 polygons_requires : tie.Need-polygons-requires
 polygons_requires c κs =
     let d = clear_call c in
     let a = (entry d).args in
-    let p = (entry d).pre.0 in
-    let s = (entry d).pre.1 in (
+    let p = (entry d).requires.0 in
+    let s = (entry d).requires.1 in (
       (p.0, p.1, p.2),
       s.1.held,
       (s.0.polygons, [], polygons_stand s.0 a.numbers.now (length a.sets.now) s.1 s.2),
       cleared d ∙ p.3 ∙ sym p.2.each_label,
       d.clear.ensures ∙ ap (λ k. replicate k 0) (sym (cleared d)),
-      (entry d).pre.2,
-      (entry d).pre.3,
+      (entry d).requires.2,
+      (entry d).requires.3,
     )
 
 -- What `polygons` comes to is what the polygons of a held sheet come to.

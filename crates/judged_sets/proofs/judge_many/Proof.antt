@@ -16,7 +16,7 @@ use Rattle.judged_sets.proofs.judge_many.Statement.{statement}
 use Rattle.judged_sets.proofs.judge_many.Tie as tie
 
 -- ---- places: the entry of the function, where there are at most 1,024 triangles
-abbrev start : tie.After-counts → tie.Start
+abbrev start : tie.After-counts-1 → tie.Start
 start c = c.before.before.before.before.before.before.before.before
 
 few : (o : tie.Start) → length o.args.sets.now ≤ 1024
@@ -29,18 +29,18 @@ lists o keys n three e = fronts 1024 keys n (length o.args.sets.now) three e (fe
 room : (o : tie.Start) → EdgeRoom o.args.numbers.now (replicate 4096 0)
 room o k h half = omega arith
 
-judge_in_requires : tie.Need-judge-in-requires
+judge_in_requires : tie.Need-judge_in-requires
 judge_in_requires c κs =
     let o = start c.before.before.before.before in
-    let p = o.pre.0 in
-    ((p.0, record { indexed = p.1; areas = p.2 }, lists o p.0 p.1.n p.1.three p.3, p.3), o.pre.1, room o, room o)
+    let p = o.requires.0 in
+    ((p.0, record { indexed = p.1; areas = p.2 }, lists o p.0 p.1.n p.1.three p.3, p.3), o.requires.1, room o, room o)
 
 returns : tie.Need-returns
 returns c =
     let j = c.before.before.before.before.before.before.before.before in
     let o = start j.before.before.before.before.before in (
-      j.judge-in.ensures.0,
-      λ keys n x areas held e s. j.judge-in.ensures.1 keys n (record { indexed = x; areas = areas }) held e (lists o keys x.n x.three s) s,
+      j.judge_in.ensures.0,
+      λ keys n x areas held e s. j.judge_in.ensures.1 keys n (record { indexed = x; areas = areas }) held e (lists o keys x.n x.three s) s,
     )
 
 pub judge_many_spec : {M : Type 1} → statement M

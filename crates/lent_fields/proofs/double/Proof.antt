@@ -7,7 +7,7 @@ use Rattle.lent_fields.proofs.double.Tie as tie
 number_requires : tie.Need-number-requires
 number_requires c κs = search rules
 
-of_pattern_requires : tie.Need-of-pattern-requires
+of_pattern_requires : tie.Need-of_pattern-requires
 of_pattern_requires c κs = search rules
 
 returns : tie.Need-returns

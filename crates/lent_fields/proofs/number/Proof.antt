@@ -9,53 +9,53 @@ use Rattle.lent_little.proofs.Ordered.{top, top_none, top_more, top_all, grow, w
 use Rattle.lent_fields.proofs.number.Statement.{statement}
 use Rattle.lent_fields.proofs.number.Tie as tie
 
-abbrev invariant_loop : tie.invariant_loop
+abbrev invariant_loop : tie.invariant-loop-k
 invariant_loop s at n little v₀ k₀ v k = (k ≤ n) × (v ≡ top little s at n k) × (v < 2 ^ (8 * k))
 
-abbrev decreases_loop : tie.decreases_loop
+abbrev decreases_loop : tie.decreases-loop-k
 decreases_loop s at n little v₀ k₀ v k = n - k
 
-loop_holds : tie.Need-loop-init invariant_loop decreases_loop
-loop_holds c = (search rules, sym (top_none _ _ _ _ c.before.requires.1), lit< tt)
+loop_holds : tie.Need-loop-k-init invariant_loop decreases_loop
+loop_holds c = (search rules, sym (top_none _ _ _ _ c.requires.1), lit< tt)
 
-place_requires : tie.Need-place-requires invariant_loop decreases_loop
+place_requires : tie.Need-place-i-requires invariant_loop decreases_loop
 place_requires c κs = omega arith
 
-mul_v : tie.Need-overflow-mul-v invariant_loop decreases_loop
+mul_v : tie.Need-overflow_mul-v invariant_loop decreases_loop
 mul_v c =
-    let l = c.before.before.loop in
+    let l = c.loop-k in
     let h = word_fits l.k l.v 0 (omega arith) l.invariant.2 (lit< tt) in omega arith
 
-shared_slice_read_wide : tie.Need-shared-slice-read-wide invariant_loop decreases_loop
+shared_slice_read_wide : tie.Need-bounds-s-i invariant_loop decreases_loop
 shared_slice_read_wide c = omega arith
 
 wide_requires : tie.Need-wide-requires invariant_loop decreases_loop
 wide_requires c κs = tt
 
-add_v : tie.Need-overflow-add-v invariant_loop decreases_loop
+add_v : tie.Need-overflow_add-v invariant_loop decreases_loop
 add_v c =
-    let l = c.before.before.before.before.loop in
-    record { fits = word_fits l.k l.v c.wide.result (omega arith) l.invariant.2 (omega (arith, c.before.shared-slice-known2.given c.before.before.place.result)) }
+    let l = c.loop-k in
+    record { fits = word_fits l.k l.v c.wide.result (omega arith) l.invariant.2 (omega (arith, c.shared_slice_known-in-loop-k-1.given c.place-i.result)) }
 
-add_k : tie.Need-overflow-add-k invariant_loop decreases_loop
+add_k : tie.Need-overflow_add-k invariant_loop decreases_loop
 add_k c = omega arith
 
-loop_less : tie.Need-loop-smaller invariant_loop decreases_loop
+loop_less : tie.Need-loop-k-smaller invariant_loop decreases_loop
 loop_less c = omega arith
 
-loop_again : tie.Need-loop-preserved invariant_loop decreases_loop
+loop_again : tie.Need-loop-k-preserved invariant_loop decreases_loop
 loop_again c =
-    let l = c.before.before.before.before.loop in
-    let a = c.before.before.before.before.before.before.args in (
+    let l = c.loop-k in
+    let a = c.args in (
       omega arith,
       cc (top_more a.little a.s.now a.at a.n l.k (omega arith) (omega arith)),
-      grow l.k l.v c.wide.result l.invariant.2 (omega (arith, c.before.shared-slice-known2.given c.before.before.place.result)),
+      grow l.k l.v c.wide.result l.invariant.2 (omega (arith, c.shared_slice_known-in-loop-k-1.given c.place-i.result)),
     )
 
 returns : tie.Need-returns invariant_loop decreases_loop
 returns c =
-    let l = c.before.loop in
-    let a = c.before.before.before.args in
+    let l = c.loop-k in
+    let a = c.args in
     let e : l.k ≡ a.n = omega arith in
     (cc (top_all a.little a.s.now a.at a.n), rw (← e) l.invariant.2)
 

@@ -19,14 +19,14 @@ only_nan (fin s m e) h = absurd (false≢true h)
 above : (b : ℕ) → 0x7ff0_0000_0000_0000 < b % 0x8000_0000_0000_0000 → of_bits binary64 b ≡ nan
 above b h = only_nan (of_bits binary64 b) (sym (nan_bits_is binary64 b) ∙ nan_bits_above binary64 b ∙ lt-ltb _ _ h)
 
-float_from_bits_result : tie.Need-float-from-bits-result
-float_from_bits_result c = rw (nan_bits_above binary64, le-ltb _ _ c.if1.false) tt
+float_from_bits_result : tie.Need-float_from_bits-result
+float_from_bits_result c = rw (nan_bits_above binary64, le-ltb _ _ c.if-b-gt9218868437227405312.false) tt
 
-returns : tie.Need-returns
+returns : tie.Need-returns-then-b-gt9218868437227405312
 unfolding div of_bits
-returns c = sym (above _ c.if1.true)
+returns c = sym (above _ c.if-b-gt9218868437227405312.true)
 
-returns_2 : tie.Need-returns-2
+returns_2 : tie.Need-returns-else-b-gt9218868437227405312
 returns_2 c = search rules
 
 pub of_pattern_spec : {M : Type 1} → statement M

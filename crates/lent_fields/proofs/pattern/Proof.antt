@@ -26,6 +26,6 @@ pub pattern_spec : {M : Type 1} → statement M
 pattern_spec =
     tie.close
     (tie.spec
-    (λ c. same_number c.before.args.x c.if1.true)
+    (λ c. same_number c.args.x c.if-x.true)
     (λ c. search rules)
-    (λ c. the_nan c.before.args.x (not_same c.before.args.x c.if1.false)))
+    (λ c. the_nan c.args.x (not_same c.args.x c.if-x.false)))

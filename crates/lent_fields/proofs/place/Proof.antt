@@ -5,23 +5,23 @@ use native.Mathlib.Omega.{arith}
 use Rattle.lent_fields.proofs.place.Statement.{statement}
 use Rattle.lent_fields.proofs.place.Tie as tie
 
-sub_result : tie.Need-overflow-sub-result
+sub_result : tie.Need-overflow_sub-result
 sub_result c = search rules
 
-sub_result_2 : tie.Need-overflow-sub-result-2
+sub_result_2 : tie.Need-overflow_sub-result-then-little
 sub_result_2 c = search rules
 
-add_result : tie.Need-overflow-add-result
+add_result : tie.Need-overflow_add-result
 add_result c = search rules
 
-add_result_2 : tie.Need-overflow-add-result-2
+add_result_2 : tie.Need-overflow_add-result-else-little
 add_result_2 c = search rules
 
-returns : tie.Need-returns
-returns c = rw c.if1.true (omega arith)
+returns : tie.Need-returns-then-little
+returns c = rw c.if-little.true (omega arith)
 
-returns_2 : tie.Need-returns-2
-returns_2 c = rw c.if1.false (omega arith)
+returns_2 : tie.Need-returns-else-little
+returns_2 c = rw c.if-little.false (omega arith)
 
 pub place_spec : {M : Type 1} → statement M
 place_spec = tie.close (tie.spec sub_result sub_result_2 add_result add_result_2 returns returns_2)

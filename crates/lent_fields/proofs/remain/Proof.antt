@@ -10,14 +10,14 @@ use Rattle.lent_fields.proofs.Remains.{within}
 use Rattle.lent_fields.proofs.remain.Statement.{statement}
 use Rattle.lent_fields.proofs.remain.Tie as tie
 
-sub_result : tie.Need-overflow-sub-result
+sub_result : tie.Need-overflow_sub-result
 sub_result c = search rules
 
-returns : tie.Need-returns
-returns c = let a = c.before.args in within a.n a.at (a.at + a.n) (length a.s.now) c.if1.true (omega arith)
+returns : tie.Need-returns-then-at-s
+returns c = let a = c.args in within a.n a.at (a.at + a.n) (length a.s.now) c.if-at-s.true (omega arith)
 
-returns_2 : tie.Need-returns-2
-returns_2 c = let a = c.before.args in sym (lt-leb (a.at + a.n) (length a.s.now) (omega arith))
+returns_2 : tie.Need-returns-else-at-s
+returns_2 c = let a = c.args in sym (lt-leb (a.at + a.n) (length a.s.now) (omega arith))
 
 pub remain_spec : {M : Type 1} → statement M
 remain_spec = tie.close (tie.spec sub_result returns returns_2)

@@ -7,7 +7,7 @@ use Rattle.lent_fields.proofs.word.Tie as tie
 number_requires : tie.Need-number-requires
 number_requires c κs = search rules
 
-cast_result : tie.Need-overflow-cast-result
+cast_result : tie.Need-overflow_cast-result
 cast_result c = search rules
 
 returns : tie.Need-returns

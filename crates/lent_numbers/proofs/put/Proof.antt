@@ -8,8 +8,8 @@ use Rattle.lent_numbers.proofs.put.Tie as tie
 
 returns : tie.Need-returns
 returns c =
-    let a = c.before.before.before.before.before.before.args in
-    c.before.before.put.ensures ∙ ap (λ b. sets a.out.now a.at (bytes 4 b)) c.before.before.before.bits.ensures
+    let a = c.args in
+    c.put.ensures ∙ ap (λ b. sets a.out.now a.at (bytes 4 b)) c.bits.ensures
 
 pub put_spec : {M : Type 1} → statement M
 put_spec = tie.close (tie.spec (λ c κs. search rules) (λ c. search rules) (λ c κs. search rules) (λ c. search rules) returns)

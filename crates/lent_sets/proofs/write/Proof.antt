@@ -7,17 +7,17 @@ use Rattle.lent_little.proofs.Bytes.{set_length, Written, written_none, written_
 use Rattle.lent_sets.proofs.write.Statement.{statement}
 use Rattle.lent_sets.proofs.write.Tie as tie
 
-abbrev invariant_loop : tie.invariant_loop
+abbrev invariant_loop : tie.invariant-loop-i
 invariant_loop l n out₀ i₀ out i = Written 8 set_bytes l n out₀ i out
 
-abbrev decreases_loop : tie.decreases_loop
+abbrev decreases_loop : tie.decreases-loop-i
 decreases_loop l n out₀ i₀ out i = n - i
 
-loop_again : tie.Need-loop-preserved invariant_loop decreases_loop
+loop_again : tie.Need-loop-i-preserved invariant_loop decreases_loop
 loop_again c =
-    let l = c.before.before.before.before.before.before.loop in
-    let p = c.before.before.put in
-    written_more 8 set_bytes set_length l.invariant p.new.0 (omega arith) (omega arith) (omega arith) p.ensures
+    let l = c.loop-i in
+    let p = c.put in
+    written_more 8 set_bytes set_length l.invariant p.new.out (omega arith) (omega arith) (omega arith) p.ensures
 
 pub write_spec : {M : Type 1} → statement M
 write_spec =
@@ -25,7 +25,7 @@ write_spec =
     (tie.spec
     invariant_loop
     decreases_loop
-    (λ c. written_none 8 set_bytes set_length c.before.before.args.numbers.now c.before.before.args.n c.before.before.args.out.now)
+    (λ c. written_none 8 set_bytes set_length c.args.numbers.now c.args.n c.args.out.now)
     (λ c. omega arith)
     (λ c. omega arith)
     (λ c. omega arith)
@@ -33,5 +33,5 @@ write_spec =
     (λ c. omega arith)
     (λ c. omega arith)
     loop_again
-    (λ c. c.before.loop.invariant.long)
-    (λ c. written_all 8 set_bytes set_length c.before.loop.invariant (omega arith)))
+    (λ c. c.loop-i.invariant.long)
+    (λ c. written_all 8 set_bytes set_length c.loop-i.invariant (omega arith)))

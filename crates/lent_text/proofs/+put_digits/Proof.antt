@@ -23,30 +23,30 @@ module _ (t : ℕ) where
   abbrev claims : put-digits-lts.Claims
   claims = (put_reads.Asked, put_reads.Learnt, and 1 put-digits-kinds.ps (falls 1 put-digits-kinds.ps ◌<◌ most t) put-digits.Pre, put-digits.Post)
 
-  returns : put-digits-lts.Need-returns claims asked put-digits.Post
+  returns : put-digits-lts.Need-returns-then-n-le9 claims asked put-digits.Post
   returns c =
-      let i = c.before.before.before.before in
-      let a = i.before.before.args in
-      let p = i.before.before.requires.1 in
-      let e = c.before.before.put.ensures in
-      (omega (arith, p.0, e.place), rw (one_digit a.most a.n p.0 i.if1.true) e)
+      let i = c in
+      let a = i.args in
+      let p = i.requires.1 in
+      let e = c.put.ensures in
+      (omega (arith, p.0, e.place), rw (one_digit a.most a.n p.0 i.if-n-le9.true) e)
 
-  put_digits_requires : put-digits-lts.Need-put-digits-requires claims asked put-digits.Post
+  put_digits_requires : put-digits-lts.Need-put_digits-next-requires claims asked put-digits.Post
   put_digits_requires c κs =
-      let a = c.before.before.before.args in
-      let p = c.before.before.before.requires in
-      let two = room_for_two a.most a.n c.before.if1.false p.1.2 in
+      let a = c.args in
+      let p = c.requires in
+      let two = room_for_two a.most a.n c.if-n-le9.false p.1.2 in
       (omega (arith, two, p.0), (omega (arith, two), omega (arith, two, p.1.1), tenth_below a.most a.n p.1.0 p.1.2))
 
-  returns_2 : put-digits-lts.Need-returns-2 claims asked put-digits.Post
+  returns_2 : put-digits-lts.Need-returns claims asked put-digits.Post
   returns_2 c =
       let l = c.before.before.before.before.before.before in
-      let i = l.before.before in
-      let a = i.before.before.args in
-      let p = i.before.before.requires.1 in
-      let d = l.put-digits.ensures in
-      let e = c.before.before.put2.ensures in
-      (omega (arith, p.0, d.0, e.place), rw (last_digit a.most a.n p.0 i.if1.false) (put_behind (omega (arith, p.1)) d.1 e))
+      let i = l in
+      let a = i.args in
+      let p = i.requires.1 in
+      let d = l.put_digits-next.ensures in
+      let e = c.put-2.ensures in
+      (omega (arith, p.0, d.0, e.place), rw (last_digit a.most a.n p.0 i.if-n-le9.false) (put_behind (omega (arith, p.1)) d.1 e))
 
 pub +put_digits_spec : {M : Type 1} → statement M
 +put_digits_spec =

@@ -6,7 +6,7 @@ use Rattle.lent_text.proofs.put_number.Tie as tie
 
 returns : tie.Need-returns
 unfolding decimal
-returns c = c.before.before.put-digits.ensures
+returns c = c.put_digits.ensures
 
 pub put_number_spec : {M : Type 1} → statement M
 put_number_spec = tie.close (tie.spec (λ c κs. search rules) (λ c. search rules) returns)

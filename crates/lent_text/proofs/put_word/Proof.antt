@@ -10,29 +10,29 @@ use Rattle.lent_text.proofs.Texts.{word_put}
 use Rattle.lent_text.proofs.put_word.Statement.{statement}
 use Rattle.lent_text.proofs.put_word.Tie as tie
 
-abbrev invariant_loop : tie.invariant_loop
+abbrev invariant_loop : tie.invariant-loop-i
 invariant_loop text₀ at word i₀ text i = (i ≤ length word) × (length text ≡ length text₀) × (text ≡ paste text₀ at word i)
 
-abbrev decreases_loop : tie.decreases_loop
+abbrev decreases_loop : tie.decreases-loop-i
 decreases_loop text₀ at word i₀ text i = length word - i
 
-loop_again : tie.Need-loop-preserved invariant_loop decreases_loop
+loop_again : tie.Need-loop-i-preserved invariant_loop decreases_loop
 loop_again c =
-    let l = c.before.before.loop in
-    let a = c.before.before.before.args in
+    let l = c.loop-i in
+    let a = c.args in
     let x = get_or a.word.now l.i 0 in (
       omega arith,
       length-set l.text _ _ ∙ l.invariant.1,
       ap (λ t. set t (a.at + l.i) x) l.invariant.2
-          ∙ paste-suc a.text.now a.at a.word.now l.i 0 (omega (arith, c.before.before.before.requires, c.before.loop-test)) (omega (arith, c.before.loop-test))
+          ∙ paste-suc a.text.now a.at a.word.now l.i 0 (omega (arith, c.requires, c.loop-i-test)) (omega (arith, c.loop-i-test))
           ∙ ap (paste a.text.now a.at a.word.now) (sym (add-one l.i)),
     )
 
 returns : tie.Need-returns invariant_loop decreases_loop
 returns c =
-    let l = c.before.loop in
-    let a = c.before.before.args in
-    record { place = refl; text = l.invariant.2 ∙ word_put a.text.now a.word.now a.at l.i (omega (arith, l.invariant.0, c.loop-test)) }
+    let l = c.loop-i in
+    let a = c.args in
+    record { place = refl; text = l.invariant.2 ∙ word_put a.text.now a.word.now a.at l.i (omega (arith, l.invariant.0, c.loop-i-test)) }
 
 pub put_word_spec : {M : Type 1} → statement M
 put_word_spec =

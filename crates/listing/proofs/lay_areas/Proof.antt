@@ -13,7 +13,7 @@ use Rattle.table.specs.Table.{RuleA}
 use Rattle.table.specs.Sides.{triangles_of}
 use Rattle.judged.specs.Judged.{Judged}
 use Rattle.judged.specs.Held.{JudgedHeld}
-use Rattle.judged.proofs.Repaired.{rules}
+use Rattle.judged.proofs.Repaired.{rules as table_rules}
 use Rattle.judged.proofs.Standing.{few, sets_many}
 use Rattle.listing.proofs.Front.{table_fits, table_held, table_front}
 use Rattle.listing.proofs.lay_areas.Statement.{statement}
@@ -21,20 +21,20 @@ use Rattle.listing.proofs.lay_areas.Tie as tie
 
 -- ---- places: the entry of the function, how many triangles there are, and the corners laid down
 abbrev start : tie.After-corners → tie.Start
-start c = c.before.before.before.before.before
+start c = c.before.before.before.before
 
 abbrev many : tie.Start → ℕ
 many c = length c.args.areas.now
 
 abbrev keys : tie.After-corners → List ℕ
-keys c = c.corners.last.1.0
+keys c = c.corners.new.keys
 
 -- The sheet's table is of as many, and there is room for the corners of the largest one.
-triangles : (c : tie.Start) → length c.pre.0.sheet.table ≡ many c
-triangles c = sym (sets_many c.pre.3) ∙ c.pre.4
+triangles : (c : tie.Start) → length c.requires.0.sheet.table ≡ many c
+triangles c = sym (sets_many c.requires.3) ∙ c.requires.4
 
 fits : (c : tie.Start) → 3 * many c ≤ 3072
-fits c = omega (arith, few c.pre.3, c.pre.4)
+fits c = omega (arith, few c.requires.3, c.requires.4)
 
 -- As many corners are laid down as the table has, and they are the table's.
 count : (c : tie.After-corners) → length (keys c) ≡ 3 * many (start c)
@@ -52,23 +52,23 @@ front c rest = take_at (keys c) rest _ (count c)
 
 corners_requires : tie.Need-corners-requires
 corners_requires c κs =
-    let s = c.before.before.before.before in
-    let p = s.pre in
+    let s = c.before.before.before in
+    let p = s.requires in
     (table_held p.3 (triangles s), (p.0.sheet.table, [], table_front p.3 (triangles s), length-take-le _ _ (fits s) ∙ ap (λ t. 3 * t) (sym (triangles s))))
 
 areas_requires : tie.Need-areas-requires
 areas_requires c κs =
     let k = c.before.before.before in
-    let w = (start k).pre.3 in (
+    let w = (start k).requires.3 in (
       subst (All Key) (sym (front k _)) k.corners.ensures.1,
-      subst (λ l. RuleA (triangles_of l)) (sym (front k _)) (subst RuleA (sym (laid k w (triangles (start k)))) (rules w.comes).0),
+      subst (λ l. RuleA (triangles_of l)) (sym (front k _)) (subst RuleA (sym (laid k w (triangles (start k)))) (table_rules w.comes).0),
       ap length (front k _) ∙ count k,
     )
 
 returns : tie.Need-returns
 returns c = λ j opposite sets w e.
     let k = c.before.before.before.before.before.before in
-    let a = c.before.before.areas.ensures in
+    let a = c.areas.ensures in
     record { are = a.0 ∙ ap (λ l. map double (triangles_of l)) (front k _) ∙ ap (map double) (laid k w (sym (sets_many w) ∙ e)); small = a.1 }
 
 pub lay_areas_spec : {M : Type 1} → statement M
@@ -77,10 +77,10 @@ lay_areas_spec =
     (tie.spec
     (λ c. search rules)
     (λ c. search rules)
-    (λ c. let s = c.before.before.before in sym (length-take-le _ _ (table_fits s.pre.3 (triangles s))))
+    (λ c. let s = c.before.before in sym (length-take-le _ _ (table_fits s.requires.3 (triangles s))))
     (λ c. search rules)
-    (λ c. fits c.before.before.before)
-    (λ c. sym (length-take-le _ _ (fits c.before.before.before.before)))
+    (λ c. fits c.before.before)
+    (λ c. sym (length-take-le _ _ (fits c.before.before.before)))
     corners_requires
     (λ c. search rules)
     (λ c. room c.before _)

@@ -20,8 +20,8 @@ use Rattle.listing.proofs.print.Tie as tie
 abbrev start : tie.After-judged → tie.Start
 start c = c.before.before.before.before.before.before
 
-abbrev call : tie.After-n → tie.After-judged
-call c = c.before.before.before.before.before
+abbrev call : tie.In-Sets → tie.After-judged
+call c = c.before.before.before.before
 
 -- The bytes, and of how many triangles there are owner sets.
 abbrev bytes : tie.After-judged → List ℕ
@@ -31,8 +31,8 @@ bytes c = (start c).args.sheet.now
 abbrev comes : tie.After-judged → Answer Judged
 comes c = judged_sheet (start c).args.mode (bytes c)
 
-abbrev many : tie.After-n → ℕ
-many c = c.n.given.0.0
+abbrev many : tie.In-Sets → ℕ
+many c = c.in-Sets.n
 
 -- The listing of what the bytes come to is put.
 known : (c : tie.After-judged) {o : Answer Judged} {r : ℕ} {after : List ℕ} → comes c ≡ o
@@ -40,37 +40,37 @@ known : (c : tie.After-judged) {o : Answer Judged} {r : ℕ} {after : List ℕ} 
 known c {r = r} {after = after} e = subst (λ o. Put 0 (listing (start c).args.way o) (start c).args.text.now r after) (sym e)
 
 -- What stands in the three lists once there are owner sets, and that its fronts are there.
-standing : (c : tie.After-n) → let l = (call c).judged.new.1.1 in
-    (j : Judged) × (comes (call c) ≡ value j) × (length j.sheet.table ≡ many c) × JudgedHeld j l.0 (take (3 * many c) l.1.0) (take (many c) l.1.1.0)
-standing c = let k = (call c).judged in stands none (start (call c)).args.mode (bytes (call c)) k.result _ _ _ k.ensures (many c) c.n.given.1
+standing : (c : tie.In-Sets) → let l = (call c).judged.new in
+    (j : Judged) × (comes (call c) ≡ value j) × (length j.sheet.table ≡ many c) × JudgedHeld j l.numbers (take (3 * many c) l.opposite) (take (many c) l.sets)
+standing c = let k = (call c).judged in stands none (start (call c)).args.mode (bytes (call c)) k.result _ _ _ k.ensures (many c) c.in-Sets.is
 
-few : (c : tie.After-n) → many c ≤ 1024
+few : (c : tie.In-Sets) → many c ≤ 1024
 few c = let s = standing c in omega (arith, s.2, s.3.held.few)
 
-opposite_room : (c : tie.After-n) → 3 * many c ≤ length (call c).judged.new.1.1.1.0
-opposite_room c = omega (arith, few c, (call c).judged.auto.1.1.1.0)
+opposite_room : (c : tie.In-Sets) → 3 * many c ≤ length (call c).judged.new.opposite
+opposite_room c = omega (arith, few c, (call c).judged.auto.opposite)
 
-sets_room : (c : tie.After-n) → many c ≤ length (call c).judged.new.1.1.1.1.0
-sets_room c = omega (arith, few c, (call c).judged.auto.1.1.1.1.0)
+sets_room : (c : tie.In-Sets) → many c ≤ length (call c).judged.new.sets
+sets_room c = omega (arith, few c, (call c).judged.auto.sets)
 
-put_judged_requires : tie.Need-put-judged-requires
+put_judged_requires : tie.Need-put_judged-requires
 put_judged_requires c κs =
-    let n = c.before.before.before.before.before in
+    let n = c.before.before.before.before in
     let s = standing n in
     ((s.0, s.3), (start (call n)).requires)
 
-returns : tie.Need-returns
+returns : tie.Need-returns-in-Refused
 returns c =
-    let p = c.before.before.put-line.ensures in
+    let p = c.put_line.ensures in
     let k = c.before.before.before.before.before.before in
-    let j = k.before.before.before.before.before in
-    let g = k.code.given in
-    (omega (arith, p.0), known j (refused_is none (start j).args.mode (bytes j) j.judged.result _ _ _ j.judged.ensures g.0.0 g.0.1.0 g.1) p.1)
+    let j = k.before.before.before.before in
+    let r = k.in-Refused in
+    (omega (arith, p.0), known j (refused_is none (start j).args.mode (bytes j) j.judged.result _ _ _ j.judged.ensures r.code r.item r.is) p.1)
 
-returns_2 : tie.Need-returns-2
+returns_2 : tie.Need-returns-in-Sets
 returns_2 c =
-    let p = c.before.before.put-judged.ensures in
-    let n = c.before.before.before.before.before.before.before.before in
+    let p = c.put_judged.ensures in
+    let n = c.before.before.before.before.before.before.before in
     let s = standing n in
     (p.0, known (call n) s.1 (p.1 s.0 s.3))
 
@@ -85,15 +85,14 @@ print_spec =
     (λ c. search rules)
     (λ c. search rules)
     (λ c. search rules)
-    (λ c. search rules)
     (λ c κs. search rules)
     (λ c. search rules)
     (λ c. search rules)
-    (λ c. omega (arith, few c.before.before))
-    (λ c. opposite_room c.before.before)
-    (λ c. sym (length-take-le _ _ (opposite_room c.before.before.before)))
-    (λ c. sets_room c.before.before.before)
-    (λ c. sym (length-take-le _ _ (sets_room c.before.before.before.before)))
+    (λ c. omega (arith, few c.before))
+    (λ c. opposite_room c.before)
+    (λ c. sym (length-take-le _ _ (opposite_room c.before.before)))
+    (λ c. sets_room c.before.before)
+    (λ c. sym (length-take-le _ _ (sets_room c.before.before.before)))
     put_judged_requires
     (λ c. search rules)
     returns

@@ -22,19 +22,19 @@ use Rattle.listing.proofs.put_judged.Statement.{statement}
 use Rattle.listing.proofs.put_judged.Tie as tie
 
 -- ---- places: the entry of the function, the call of `areas`, the call of `lay_areas`, the call of `repair`
-abbrev entry : tie.After-shared-slice-known4 → tie.Start
+abbrev entry : tie.After-shared_slice_known-4-1 → tie.Start
 entry c = c.before.before.before.before.before
 
 abbrev begun : tie.After-areas → tie.Start
 begun c = entry c.before.before
 
-abbrev summed : tie.After-lay-areas → tie.After-areas
+abbrev summed : tie.After-lay_areas → tie.After-areas
 summed c = c.before.before.before
 
-abbrev start : tie.After-lay-areas → tie.Start
+abbrev start : tie.After-lay_areas → tie.Start
 start c = begun (summed c)
 
-abbrev laid : tie.After-repair → tie.After-lay-areas
+abbrev laid : tie.After-repair-done → tie.After-lay_areas
 laid c = c.before.before.before
 
 -- The judged sheet j stands in the lists, and how many owner sets there are.
@@ -56,10 +56,10 @@ polygons_few c = let (j, w) = c.requires.0 in omega (arith, polygons_are c j w, 
 
 -- ---- the double areas of the polygons: one for each, at the front of the work list
 abbrev doubles : tie.After-areas → List ℕ
-doubles c = c.areas.new.1.0
+doubles c = c.areas.new.areas
 
 doubles_many : (c : tie.After-areas) → length (doubles c) ≡ polygons (begun c)
-doubles_many c = c.areas.auto.1.0 ∙ length-take-le _ _ (polygons_few (begun c))
+doubles_many c = c.areas.auto.areas ∙ length-take-le _ _ (polygons_few (begun c))
 
 doubles_are : (c : tie.After-areas) (j : Judged) → Stands (begun c) j → doubles c ≡ map (λ (m : Member). of_z w64 (double_area m)) j.sheet.polygons
 doubles_are c j w = c.areas.ensures members j.sheet w.size w.held w.rings (sym (polygons_are (begun c) j w) ∙ sym (length-take-le _ _ (polygons_few (begun c))))
@@ -68,34 +68,34 @@ doubles_room : (c : tie.After-areas) (rest : List ℕ) → polygons (begun c) �
 doubles_room c rest = omega (arith, length-append (doubles c) rest, doubles_many c)
 
 -- ---- the areas and the owner numbers that were left: one for each triangle, at the front of the work lists
-abbrev areas : tie.After-lay-areas → List ℕ
-areas c = c.lay-areas.new.1.0
+abbrev areas : tie.After-lay_areas → List ℕ
+areas c = c.lay_areas.new.areas
 
-areas_many : (c : tie.After-lay-areas) → length (areas c) ≡ many (start c)
-areas_many c = c.lay-areas.auto.1.0 ∙ length-take-le _ _ (few (start c).requires.0.1)
+areas_many : (c : tie.After-lay_areas) → length (areas c) ≡ many (start c)
+areas_many c = c.lay_areas.auto.areas ∙ length-take-le _ _ (few (start c).requires.0.1)
 
-areas_are : (c : tie.After-lay-areas) (j : Judged) → Stands (start c) j → AreasOf j.sheet (areas c)
-areas_are c j w = c.lay-areas.ensures j _ _ w (sym (length-take-le _ _ (few w)))
+areas_are : (c : tie.After-lay_areas) (j : Judged) → Stands (start c) j → AreasOf j.sheet (areas c)
+areas_are c j w = c.lay_areas.ensures j _ _ w (sym (length-take-le _ _ (few w)))
 
-areas_room : (c : tie.After-lay-areas) (rest : List ℕ) → many (start c) ≤ length (areas c ++ rest)
+areas_room : (c : tie.After-lay_areas) (rest : List ℕ) → many (start c) ≤ length (areas c ++ rest)
 areas_room c rest = omega (arith, length-append (areas c) rest, areas_many c)
 
-abbrev owners : tie.After-repair → List ℕ
-owners c = c.repair.new.1.1.1.1.0
+abbrev owners : tie.After-repair-done → List ℕ
+owners c = c.repair-done.new.owners
 
-owners_many : (c : tie.After-repair) → length (owners c) ≡ many (start (laid c))
-owners_many c = c.repair.auto.1.1.1.1.0 ∙ length-take-le _ _ (few (start (laid c)).requires.0.1)
+owners_many : (c : tie.After-repair-done) → length (owners c) ≡ many (start (laid c))
+owners_many c = c.repair-done.auto.owners ∙ length-take-le _ _ (few (start (laid c)).requires.0.1)
 
-owners_room : (c : tie.After-repair) (rest : List ℕ) → many (start (laid c)) ≤ length (owners c ++ rest)
+owners_room : (c : tie.After-repair-done) (rest : List ℕ) → many (start (laid c)) ≤ length (owners c ++ rest)
 owners_room c rest = omega (arith, length-append (owners c) rest, owners_many c)
 
 -- ---- the lines by them
-figures_are : (c : tie.After-repair) (x y : List ℕ) → x ≡ owners c → y ≡ areas (laid c) → Figures (start (laid c)).args.sets.now x y
+figures_are : (c : tie.After-repair-done) (x y : List ℕ) → x ≡ owners c → y ≡ areas (laid c) → Figures (start (laid c)).args.sets.now x y
 figures_are c x y e f = let p = (start (laid c)).requires.0 in rw (e, f) (figures p.1 (owners c) (areas_are (laid c) p.0 p.1) (owners_many c) (doubles_are (summed (laid c)) p.0 p.1))
 
-lines_are : (c : tie.After-repair) (j : Judged) → Stands (start (laid c)) j → (d x y : List ℕ) → d ≡ doubles (summed (laid c)) → x ≡ owners c → y ≡ areas (laid c)
-    → let a = (start (laid c)).args in lines_by c.repair.result d a.sets.now x y ≡ listing_of a.way j
-lines_are c j w d x y g e f = rw (g, e, f) (listing_is w (owners c) (areas_are (laid c) j w) (owners_many c) (doubles_are (summed (laid c)) j w) _ c.repair.result c.repair.ensures)
+lines_are : (c : tie.After-repair-done) (j : Judged) → Stands (start (laid c)) j → (d x y : List ℕ) → d ≡ doubles (summed (laid c)) → x ≡ owners c → y ≡ areas (laid c)
+    → let a = (start (laid c)).args in lines_by c.repair-done.result d a.sets.now x y ≡ listing_of a.way j
+lines_are c j w d x y g e f = rw (g, e, f) (listing_is w (owners c) (areas_are (laid c) j w) (owners_many c) (doubles_are (summed (laid c)) j w) _ c.repair-done.result c.repair-done.ensures)
 
 few_lines : (c : tie.After-areas) (d : List ℕ) → d ≡ doubles c → length d ≤ 64
 few_lines c d e = omega (arith, ap length e, doubles_many c, polygons_few (begun c))
@@ -103,31 +103,31 @@ few_lines c d e = omega (arith, ap length e, doubles_many c, polygons_few (begun
 areas_requires : tie.Need-areas-requires
 areas_requires c κs =
     let s = entry c.before in
-    let (j, w) = s.pre.0 in
+    let (j, w) = s.requires.0 in
     (members, j.sheet, w.size, w.held, w.rings, sym (polygons_are s j w) ∙ sym (length-take-le _ _ (polygons_few s)))
 
-lay_areas_requires : tie.Need-lay-areas-requires
+lay_areas_requires : tie.Need-lay_areas-requires
 lay_areas_requires c κs = let w = (begun c.before.before).requires.0 in (w.0, _, _, w.1, sym (length-take-le _ _ (few w.1)))
 
-repair_requires : tie.Need-repair-requires
+repair_requires : tie.Need-repair-done-requires
 repair_requires c κs = let w = (start c.before.before).requires.0.1 in (pairs w, length-take-le _ _ (few w), few w, table_in w)
 
-put_lines_requires : tie.Need-put-lines-requires
+put_lines_requires : tie.Need-put_lines-requires
 put_lines_requires c κs =
     let r = c.before.before.before.before.before in
     let l = laid r in (
       figures_are r _ _ (take_at (owners r) _ _ (owners_many r)) (take_at (areas l) _ _ (areas_many l)),
       few_lines (summed l) _ (take_at (doubles (summed l)) _ _ (doubles_many (summed l))),
-      (start l).pre.1,
+      (start l).requires.1,
     )
 
 returns : tie.Need-returns
 returns c =
-    let p = c.before.before.put-lines in
+    let p = c.put_lines in
     let r = c.before.before.before.before.before.before.before.before in
     let l = laid r in (
       p.ensures.0,
-      λ j w. subst (λ lines. Put 0 lines (start l).args.text.now p.result p.new.0)
+      λ j w. subst (λ lines. Put 0 lines (start l).args.text.now p.result p.new.text)
           (lines_are r j w _ _ _ (take_at (doubles (summed l)) _ _ (doubles_many (summed l))) (take_at (owners r) _ _ (owners_many r)) (take_at (areas l) _ _ (areas_many l))) p.ensures.1,
     )
 
@@ -137,8 +137,8 @@ put_judged_spec =
     (tie.spec
     (λ c. search rules)
     (λ c. search rules)
-    (λ c. omega (arith, few c.before.before.before.before.requires.0.1))
-    (λ c. (polygons_at (entry c).requires.0.1).0)
+    (λ c. omega (arith, few c.requires.0.1))
+    (λ c. (polygons_at c.requires.0.1).0)
     (λ c. omega (arith, (polygons_at (entry c).requires.0.1).1))
     (λ c. omega (arith, polygons_few (entry c)))
     (λ c. polygons_few (entry c))

@@ -82,15 +82,15 @@ measured_more keys areas t v h l m e w = record {
     rest : List ℤ
     rest = map double (triangles_of (drop (3 * suc t) keys))
 
-abbrev invariant_loop : tie.invariant_loop
+abbrev invariant_loop : tie.invariant-loop-t
 invariant_loop keys areas₀ t₀ areas t = (t ≤ length areas₀) × (length areas ≡ length areas₀) × Measured keys areas t
 
-abbrev decreases_loop : tie.decreases_loop
+abbrev decreases_loop : tie.decreases-loop-t
 decreases_loop keys areas₀ t₀ areas t = length areas₀ - t
 
 -- ---- places: the loop, the entry of the function, and the number that is cast
-module _ (d : tie.After-area-at invariant_loop decreases_loop) where
-  abbrev loop : tie.At-loop invariant_loop decreases_loop
+module _ (d : tie.After-area_at invariant_loop decreases_loop) where
+  abbrev loop : tie.At-loop-t invariant_loop decreases_loop
   loop = d.before.before
 
   abbrev start : tie.Start invariant_loop decreases_loop
@@ -100,32 +100,32 @@ module _ (d : tie.After-area-at invariant_loop decreases_loop) where
   keys = start.args.keys.now
 
   abbrev number : ℤ
-  number = to_z w64 (of_z w64 d.area-at.result)
+  number = to_z w64 (of_z w64 d.area_at.result)
 
-  number_is : number ≡ double (triangle_at keys loop.loop.t)
-  number_is = returned _ d.area-at.ok ∙ d.area-at.ensures
+  number_is : number ≡ double (triangle_at keys loop.loop-t.t)
+  number_is = returned _ d.area_at.type_inv ∙ d.area_at.ensures
 
   number_above : pos 0 <ℤ number
-  number_above = subst (λ z. pos 0 <ℤ z) (sym number_is) (above_here keys loop.loop.areas loop.loop.t (omega arith) loop.loop.inv.2).0
+  number_above = subst (λ z. pos 0 <ℤ z) (sym number_is) (above_here keys loop.loop-t.areas loop.loop-t.t (omega arith) loop.loop-t.invariant.2).0
 
   number_small : nat_abs number ≤ 800_000_000_000_000
-  number_small = subst (λ z. nat_abs z ≤ 800_000_000_000_000) (sym number_is) (double_within keys loop.loop.t start.pre.0 (omega arith)).size
+  number_small = subst (λ z. nat_abs z ≤ 800_000_000_000_000) (sym number_is) (double_within keys loop.loop-t.t start.requires.0 (omega arith)).size
 
-loop_again : tie.Need-loop-preserved invariant_loop decreases_loop
+loop_again : tie.Need-loop-t-preserved invariant_loop decreases_loop
 loop_again c =
-    let l = (loop c).loop in (
+    let l = (loop c).loop-t in (
       omega arith,
-      length-set l.areas l.t _ ∙ l.inv.1,
+      length-set l.areas l.t _ ∙ l.invariant.1,
       subst (Measured (keys c) (set l.areas l.t (nat_abs (number c)))) (sym (add-one l.t))
-          (measured_more (keys c) l.areas l.t (nat_abs (number c)) (omega arith) (omega arith) l.inv.2 (above_size (number c) (number_above c) ∙ number_is c) (number_small c)),
+          (measured_more (keys c) l.areas l.t (nat_abs (number c)) (omega arith) (omega arith) l.invariant.2 (above_size (number c) (number_above c) ∙ number_is c) (number_small c)),
     )
 
 returns : tie.Need-returns invariant_loop decreases_loop
 returns c =
-    let l = c.before.loop in
+    let l = c.loop-t in
     let m = l.invariant.2 in
     let all = take_all l.t l.areas (omega arith) in
-    let none = triangles_end c.before.before.before.before.args.keys.now l.t (omega arith) in
+    let none = triangles_end c.args.keys.now l.t (omega arith) in
     (sym (append-nil (map pos l.areas)) ∙ rw (all, none) at m.same, rw all at m.small)
 
 pub areas_spec : {M : Type 1} → statement M
@@ -134,13 +134,13 @@ areas_spec =
     (tie.spec
     invariant_loop
     decreases_loop
-    (λ c. (omega arith, refl, record { same = refl; small = tt; rule = c.before.before.requires.1 }))
-    (λ c κs. (c.before.before.before.before.requires.0, omega arith))
+    (λ c. (omega arith, refl, record { same = refl; small = tt; rule = c.requires.1 }))
+    (λ c κs. (c.requires.0, omega arith))
     (λ c. (above_nonneg (number c) (number_above c), omega (arith, number_small c)))
     (λ c. search rules)
     (λ c. omega arith)
     (λ c. omega arith)
     (λ c. omega arith)
     loop_again
-    (λ c. c.before.loop.invariant.1)
+    (λ c. c.loop-t.invariant.1)
     returns)

@@ -12,26 +12,26 @@ use Rattle.listing_figures.proofs.is_counted.Tie as tie
 known : (figure variant : Figure) (set owner : ℕ) → figure ≡ variant → counts variant set owner ≡ counts figure set owner
 known figure variant set owner e = sym (ap (λ f. counts f set owner) e)
 
-returns : tie.Need-returns
-returns c = ap is_gap (sym c.enum-told2.given.1 ∙ c.before.before.standing-of.ensures) ∙ known _ _ _ _ c.before.before.before.enum_told.given.1
+returns : tie.Need-returns-in-Gap
+returns c = ap is_gap (sym c.in-Gap.is ∙ c.standing_of.ensures) ∙ known _ _ _ _ c.in-Gaps.is
 
-returns_2 : tie.Need-returns-2
-returns_2 c = ap is_gap (sym c.enum-told3.given.1 ∙ c.before.before.standing-of.ensures) ∙ known _ _ _ _ c.before.before.before.enum_told.given.1
+returns_2 : tie.Need-returns-in-Single
+returns_2 c = ap is_gap (sym c.in-Single.is ∙ c.standing_of.ensures) ∙ known _ _ _ _ c.in-Gaps.is
 
-returns_3 : tie.Need-returns-3
-returns_3 c = ap is_gap (sym c.enum-told4.given.1 ∙ c.before.before.standing-of.ensures) ∙ known _ _ _ _ c.before.before.before.enum_told.given.1
+returns_3 : tie.Need-returns-in-Overlap
+returns_3 c = ap is_gap (sym c.in-Overlap.is ∙ c.standing_of.ensures) ∙ known _ _ _ _ c.in-Gaps.is
 
-returns_4 : tie.Need-returns-4
-returns_4 c = ap is_overlap (sym c.enum-told6.given.1 ∙ c.before.before.standing-of2.ensures) ∙ known _ _ _ _ c.before.before.before.enum-told5.given.1
+returns_4 : tie.Need-returns-in-Gap-standing_of
+returns_4 c = ap is_overlap (sym c.in-Gap-standing_of.is ∙ c.standing_of-in-Overlaps.ensures) ∙ known _ _ _ _ c.in-Overlaps.is
 
-returns_5 : tie.Need-returns-5
-returns_5 c = ap is_overlap (sym c.enum-told7.given.1 ∙ c.before.before.standing-of2.ensures) ∙ known _ _ _ _ c.before.before.before.enum-told5.given.1
+returns_5 : tie.Need-returns-in-Single-standing_of
+returns_5 c = ap is_overlap (sym c.in-Single-standing_of.is ∙ c.standing_of-in-Overlaps.ensures) ∙ known _ _ _ _ c.in-Overlaps.is
 
-returns_6 : tie.Need-returns-6
-returns_6 c = ap is_overlap (sym c.enum-told8.given.1 ∙ c.before.before.standing-of2.ensures) ∙ known _ _ _ _ c.before.before.before.enum-told5.given.1
+returns_6 : tie.Need-returns-in-Overlap-standing_of
+returns_6 c = ap is_overlap (sym c.in-Overlap-standing_of.is ∙ c.standing_of-in-Overlaps.ensures) ∙ known _ _ _ _ c.in-Overlaps.is
 
-returns_7 : tie.Need-returns-7
-returns_7 c = known _ _ _ _ c.before.which.given.1
+returns_7 : tie.Need-returns-in-After
+returns_7 c = known _ _ _ _ c.in-After.is
 
 pub is_counted_spec : {M : Type 1} → statement M
 is_counted_spec =

@@ -1,6 +1,5 @@
 -- `listing_figures::tally` meets its contract. The invariant: what is counted so far, with the marked triangles from t on, comes to all that are marked. Assumes nothing.
 use mathlib.Core.Path.{◌≡◌, sym, ◌∙◌, ap}
-use mathlib.Core.Logic.{⊎_elim}
 use mathlib.Core.Bool.{Bool, true, false}
 use mathlib.Core.List.{List, [], ◌∷◌}
 use Prim.Native.Nat.{ℕ, suc, ◌+◌, ◌-◌, ◌*◌, ◌≤◌, ◌<◌}
@@ -16,6 +15,7 @@ use Rattle.listing_figures.specs.Figures.{counts, marks_of, total}
 use Rattle.listing_figures.proofs.Totals.{chosen_fewer}
 use Rattle.listing_figures.proofs.tally.Statement.{statement}
 use Rattle.listing_figures.proofs.tally.Tie as tie
+use Rattle.listing_figures.proofs.tally.Lts.{then-is_counted, else-is_counted}
 
 -- ---- the areas of the marked triangles
 chosen_less : (l : List ℕ) (s : List Bool) → All (λ a. a ≤ 800_000_000_000_000) l → total (chosen l s) ≤ length l * 800_000_000_000_000
@@ -39,50 +39,50 @@ module _ (figure : Figure) (sets owners areas : List ℕ) where
   none_left : (t : ℕ) → length areas ≤ t → left t ≡ []
   none_left t h = ap (λ l. chosen l (marks_of figure (drop t sets) (drop t owners))) (drop_of_length-le areas {i = t} h)
 
-abbrev invariant_loop : tie.invariant_loop
+abbrev invariant_loop : tie.invariant-loop-t
 invariant_loop which sets owners areas triangles₀ area₀ t₀ triangles area t =
     (t ≤ length areas) × (triangles + length (left which sets owners areas t) ≡ length (left which sets owners areas 0))
     × (area + total (left which sets owners areas t) ≡ total (left which sets owners areas 0))
 
-abbrev decreases_loop : tie.decreases_loop
+abbrev decreases_loop : tie.decreases-loop-t
 decreases_loop which sets owners areas triangles₀ area₀ t₀ triangles area t = length areas - t
 
-loop_holds : tie.Need-loop-init invariant_loop decreases_loop
+loop_holds : tie.Need-loop-t-init invariant_loop decreases_loop
 loop_holds c = (omega arith, omega arith, omega arith)
 
-add_triangles : tie.Need-overflow-add-triangles invariant_loop decreases_loop
+add_triangles : tie.Need-overflow_add-triangles invariant_loop decreases_loop
 add_triangles c =
-    let a = c.before.before.before.before.before.before.before.before.before.args in
-    omega (arith, c.before.before.before.before.before.loop.invariant.1, chosen_fewer a.areas.now (marks_of a.which a.sets.now a.owners.now))
+    let a = c.args in
+    omega (arith, c.loop-t.invariant.1, chosen_fewer a.areas.now (marks_of a.which a.sets.now a.owners.now))
 
-add_area : tie.Need-overflow-add-area invariant_loop decreases_loop
+add_area : tie.Need-overflow_add-area invariant_loop decreases_loop
 add_area c =
-    let a = c.before.before.before.before.before.before.before.before.before.before.args in
-    let h = c.before.before.before.before.before.before.before.before.before.before.requires in
-    let l = c.before.before.before.before.before.before.loop in
-    let n = next a.which a.sets.now a.owners.now a.areas.now l.t true (omega arith) h.0 h.1 (sym c.before.before.is-counted.ensures ∙ c.before.if1.true) in
+    let a = c.args in
+    let h = c.requires in
+    let l = c.loop-t in
+    let n = next a.which a.sets.now a.owners.now a.areas.now l.t true (omega arith) h.0 h.1 (sym c.is_counted.ensures ∙ c.if-is_counted.true) in
     omega (arith, l.invariant.2, ap total n, chosen_less a.areas.now (marks_of a.which a.sets.now a.owners.now) h.3)
 
-loop_again : tie.Need-loop-preserved invariant_loop decreases_loop
+loop_again : tie.Need-loop-t-preserved invariant_loop decreases_loop
 loop_again c =
-    let a = c.before.before.before.before.before.before.before.before.before.args in
-    let h = c.before.before.before.before.before.before.before.before.before.requires in
-    let l = c.before.before.before.before.before.loop in
-    let k = c.before.is-counted in
+    let a = c.args in
+    let h = c.requires in
+    let l = c.loop-t in
+    let k = c.is_counted in
     let one = add-one l.t in
-    ⊎_elim
-    (λ w.
-    let n = next a.which a.sets.now a.owners.now a.areas.now l.t true (omega arith) h.0 h.1 (sym k.ensures ∙ w.0.taken) in
-    (omega arith, rw one (omega (arith, l.invariant.1, w.2, ap length n)), rw one (omega (arith, l.invariant.2, w.3, ap total n))))
-    (λ w.
-    let n = next a.which a.sets.now a.owners.now a.areas.now l.t false (omega arith) h.0 h.1 (sym k.ensures ∙ w.0.left) in
-    (omega arith, rw one (omega (arith, l.invariant.1, w.1, ap length n)), rw one (omega (arith, l.invariant.2, w.2, ap total n))))
-    c.if1.branch
+    elim c.if-is_counted.branch [
+      | then-is_counted w ↦
+          let n = next a.which a.sets.now a.owners.now a.areas.now l.t true (omega arith) h.0 h.1 (sym k.ensures ∙ w.if-is_counted.true) in
+          (omega arith, rw one (omega (arith, l.invariant.1, w.triangles-is, ap length n)), rw one (omega (arith, l.invariant.2, w.area-is, ap total n)))
+      | else-is_counted w ↦
+          let n = next a.which a.sets.now a.owners.now a.areas.now l.t false (omega arith) h.0 h.1 (sym k.ensures ∙ w.if-is_counted.false) in
+          (omega arith, rw one (omega (arith, l.invariant.1, w.triangles-is, ap length n)), rw one (omega (arith, l.invariant.2, w.area-is, ap total n)))
+    ]
 
 returns : tie.Need-returns invariant_loop decreases_loop
 returns c =
-    let l = c.before.loop in
-    let a = c.before.before.before.before.before.args in
+    let l = c.loop-t in
+    let a = c.args in
     let n = none_left a.which a.sets.now a.owners.now a.areas.now l.t (omega arith) in
     (omega (arith, l.invariant.1, ap length n), omega (arith, l.invariant.2, ap total n))
 

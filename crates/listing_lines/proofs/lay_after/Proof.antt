@@ -8,31 +8,31 @@ use Rattle.listing_lines.proofs.Lines.{Laid, laid_none, laid_more, laid_all}
 use Rattle.listing_lines.proofs.lay_after.Statement.{statement}
 use Rattle.listing_lines.proofs.lay_after.Tie as tie
 
-abbrev invariant_loop : tie.invariant_loop
+abbrev invariant_loop : tie.invariant-loop-k
 invariant_loop sets owners areas doubles₀ k₀ doubles k = (k ≤ length doubles₀) × (length doubles ≡ length doubles₀) × Laid (owned_by sets owners areas) (length doubles₀) doubles k
 
-abbrev decreases_loop : tie.decreases_loop
+abbrev decreases_loop : tie.decreases-loop-k
 decreases_loop sets owners areas doubles₀ k₀ doubles k = length doubles₀ - k
 
 -- ---- places: the entry of the function
-abbrev start : tie.At-loop invariant_loop decreases_loop → tie.Start invariant_loop decreases_loop
+abbrev start : tie.At-loop-k invariant_loop decreases_loop → tie.Start invariant_loop decreases_loop
 start c = c.before.before.before.before.before
 
-tally_requires : tie.Need-tally-requires invariant_loop decreases_loop
-tally_requires c κs = let f = (start c.before).pre.0 in (f.each_set, f.each_owner, f.few, f.small)
+tally_requires : tie.Need-tally-figure-requires invariant_loop decreases_loop
+tally_requires c κs = let f = (start c.before).requires.0 in (f.each_set, f.each_owner, f.few, f.small)
 
-loop_again : tie.Need-loop-preserved invariant_loop decreases_loop
+loop_again : tie.Need-loop-k-preserved invariant_loop decreases_loop
 loop_again c =
-    let l = c.before.before.loop in
+    let l = c.loop-k in
     let a = (start c.before.before).args in (
       omega arith,
       length-set l.doubles l.k _ ∙ l.invariant.1,
-      laid_more (owned_by a.sets.now a.owners.now a.areas.now) (length a.doubles.now) l.doubles l.k c.tally.result.area (omega arith) (omega arith) c.tally.ensures.1 l.invariant.2,
+      laid_more (owned_by a.sets.now a.owners.now a.areas.now) (length a.doubles.now) l.doubles l.k c.tally-figure.result.area (omega arith) (omega arith) c.tally-figure.ensures.1 l.invariant.2,
     )
 
 returns : tie.Need-returns invariant_loop decreases_loop
 returns c =
-    let l = c.before.loop in
+    let l = c.loop-k in
     let a = (start c.before).args in
     laid_all (owned_by a.sets.now a.owners.now a.areas.now) (length a.doubles.now) l.doubles l.k (omega arith) l.invariant.1 l.invariant.2
 
@@ -42,7 +42,7 @@ lay_after_spec =
     (tie.spec
     invariant_loop
     decreases_loop
-    (λ c. let a = c.before.before.before.before.args in (omega arith, refl, laid_none (owned_by a.sets.now a.owners.now a.areas.now) (length a.doubles.now) a.doubles.now))
+    (λ c. let a = c.args in (omega arith, refl, laid_none (owned_by a.sets.now a.owners.now a.areas.now) (length a.doubles.now) a.doubles.now))
     (λ c. omega arith)
     (λ c. omega arith)
     tally_requires
@@ -51,5 +51,5 @@ lay_after_spec =
     (λ c. omega arith)
     (λ c. omega arith)
     loop_again
-    (λ c. c.before.loop.invariant.1)
+    (λ c. c.loop-k.invariant.1)
     returns)

@@ -7,8 +7,8 @@ use Rattle.listing_lines.proofs.put_lines.Tie as tie
 
 returns : tie.Need-returns
 returns c =
-    let head = c.before.before.before.before.before.before.put-head.ensures in
-    let rest = c.before.before.put-after.ensures in
+    let head = c.put_head-at.ensures in
+    let rest = c.put_after.ensures in
     (omega (arith, head.0, rest.0), put_behind (omega arith) head.1 rest.1)
 
 pub put_lines_spec : {M : Type 1} → statement M

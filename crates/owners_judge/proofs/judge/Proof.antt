@@ -1,7 +1,7 @@
 -- `owners_judge::judge` meets its contract: a stray piece, or counts that no set has for its boundary, leave no set that carries the member; where no side is
 -- touched it has no ground; else the labelled set carries it. Assumes nothing.
 use mathlib.Core.Path.{◌≡◌, sym, ◌∙◌, ap}
-use mathlib.Core.Bool.{Bool}
+use mathlib.Core.Bool.{Bool, not}
 use mathlib.Core.List.{List}
 use Prim.Native.Nat.{ℕ}
 use native.Mathlib.Omega.{arith}
@@ -23,25 +23,25 @@ use Rattle.owners_judge.proofs.judge.Statement.{statement}
 use Rattle.owners_judge.proofs.judge.Tie as tie
 
 -- ---- places: the entry of the function, the calls of `tally`, `touched` and `spread`, and the way on behind each
-abbrev start : tie.After-tally-arg → tie.Start
+abbrev start : tie.After-tally-arg-1 → tie.Start
 start c = c.before.before.before.before.before.before.before.before.before.before
 
-abbrev tally_call : tie.Else1 → tie.After-tally
+abbrev tally_call : tie.Else-not-tally → tie.After-tally
 tally_call c = c.before.before.before
 
-abbrev tallied : tie.After-touched → tie.Else1
-tallied c = c.before.before.before
+abbrev tallied : tie.After-touched-n → tie.Else-not-tally
+tallied c = c.before.before
 
-abbrev touched_call : tie.Else2 → tie.After-touched
+abbrev touched_call : tie.Else-n-eq0 → tie.After-touched-n
 touched_call c = c.before.before.before
 
-abbrev listed : tie.After-spread → tie.Else2
-listed c = c.before.before.before.before.before
+abbrev listed : tie.After-spread → tie.Else-n-eq0
+listed c = c.before.before.before
 
-abbrev spread_call : tie.After-slice-known8 → tie.After-spread
+abbrev spread_call : tie.After-slice_known-8-1 → tie.After-spread
 spread_call c = c.before.before.before.before
 
-abbrev entry : tie.Else1 → tie.Start
+abbrev entry : tie.Else-not-tally → tie.Start
 entry c = start (tally_call c).before
 
 -- The pieces of the polygon, their counts at the sides of the table, the list of the touched sides, and the labels that have spread.
@@ -49,13 +49,13 @@ abbrev pieces : tie.Start → List Edge
 pieces o = pieces_of o.args.ordered.now o.args.from.now o.args.to.now
 
 abbrev counts : tie.After-tally → List ℕ
-counts c = c.tally.new.1.1.1.1.0
+counts c = c.tally.new.counts
 
-abbrev touched : tie.After-touched → List ℕ
-touched c = c.touched.new.1.0
+abbrev touched : tie.After-touched-n → List ℕ
+touched c = c.touched-n.new.sides
 
 abbrev labels : tie.After-spread → List Bool
-labels c = c.spread.new.1.1.1.0
+labels c = c.spread.new.labels
 
 -- What is found once for the table of these corners, and the work lists for it.
 abbrev Found : tie.Start → List ℕ → Type 0
@@ -74,14 +74,14 @@ told : (c : tie.After-tally) {keys : List ℕ} → let o = start c.before in Fou
     (Tallied (sides_of (triangles_of keys)) (pieces o) (counts c) × Settled (sides_of (triangles_of keys)) (pieces o) (pieces o)) (Stray (sides_of (triangles_of keys)) (pieces o))
 told c {keys} w q = let o = start c.before in c.tally.ensures (sides_of (triangles_of keys)) w.indexed.looked (each_side o w q)
 
-counted : (c : tie.Else1) {keys : List ℕ} → Found (entry c) keys → Lists (entry c) keys
+counted : (c : tie.Else-not-tally) {keys : List ℕ} → Found (entry c) keys → Lists (entry c) keys
     → Tallied (sides_of (triangles_of keys)) (pieces (entry c)) (counts (tally_call c)) × Settled (sides_of (triangles_of keys)) (pieces (entry c)) (pieces (entry c))
-counted c w q = told_yes _ _ (tally_call c).tally.result c.if1.false (told (tally_call c) w q)
+counted c w q = told_yes _ _ (tally_call c).tally.result (ap not c.if-not-tally.false) (told (tally_call c) w q)
 
-many : (c : tie.Else1) {keys : List ℕ} → Found (entry c) keys → Lists (entry c) keys → length (counts (tally_call c)) ≡ length keys
-many c w q = (tally_call c).tally.auto.1.1.1.1.0 ∙ q.each_count
+many : (c : tie.Else-not-tally) {keys : List ℕ} → Found (entry c) keys → Lists (entry c) keys → length (counts (tally_call c)) ≡ length keys
+many c w q = (tally_call c).tally.auto.counts ∙ q.each_count
 
-spreading : (c : tie.Else1) {keys : List ℕ} → Found (entry c) keys → Lists (entry c) keys → Spreadable (entry c).args.opposite.now (counts (tally_call c)) (length (entry c).args.labels.now)
+spreading : (c : tie.Else-not-tally) {keys : List ℕ} → Found (entry c) keys → Lists (entry c) keys → Spreadable (entry c).args.opposite.now (counts (tally_call c)) (length (entry c).args.labels.now)
 spreading c {keys} w q =
     let a = (entry c).args in
     spreadable keys _ _ _ w a.from.now a.to.now (counts (tally_call c)) (entry c).requires.1 (counted c w q).0 (length a.labels.now) q.each_label (many c w q)
@@ -89,52 +89,52 @@ spreading c {keys} w q =
 tally_requires : tie.Need-tally-requires
 tally_requires c κs =
     let o = start c in
-    let p = o.pre.0 in
-    ((sides_of (triangles_of p.0), p.1.indexed.looked, each_side o p.1 p.2), o.pre.1)
+    let p = o.requires.0 in
+    ((sides_of (triangles_of p.0), p.1.indexed.looked, each_side o p.1 p.2), o.requires.1)
 
-touched_requires : tie.Need-touched-requires
-touched_requires c κs = let d = c.before.before in let p = (entry d).requires.0 in p.2.each_side ∙ sym (many d p.1 p.2)
+touched_requires : tie.Need-touched-n-requires
+touched_requires c κs = let d = c.before in let p = (entry d).requires.0 in p.2.each_side ∙ sym (many d p.1 p.2)
 
 spread_requires : tie.Need-spread-requires
 spread_requires c κs =
-    let t = touched_call c.before.before.before.before in
+    let t = touched_call c.before.before in
     let d = tallied t in
-    let p = (entry d).pre.0 in
-    (spreading d p.1 p.2, t.touched.ensures.0, p.2.each_place ∙ sym p.2.each_label)
+    let p = (entry d).requires.0 in
+    (spreading d p.1 p.2, t.touched-n.ensures.0, p.2.each_place ∙ sym p.2.each_label)
 
-returns : tie.Need-returns
+returns : tie.Need-returns-then-not-tally
 returns c = λ keys m w q e.
     let d = c.before.before.before in
     let a = (start d.before).args in
-    sym (judge_stray keys _ _ _ w a.from.now a.to.now m e (told_no _ _ d.tally.result c.if1.true (told d w q)))
+    sym (judge_stray keys _ _ _ w a.from.now a.to.now m e (told_no _ _ d.tally.result (ap not c.if-not-tally.true) (told d w q)))
 
-returns_2 : tie.Need-returns-2
+returns_2 : tie.Need-returns-then-n-eq0
 returns_2 c = λ keys m w q e.
     let t = c.before.before.before in
     let d = tallied t in
     let a = (entry d).args in
     let k = counted d w q in
-    let none : touched_sides (counts (tally_call d)) ≡ _ = sym t.touched.ensures.0 ∙ ap (λ n. take n (touched t)) c.if2.true in
+    let none : touched_sides (counts (tally_call d)) ≡ _ = sym t.touched-n.ensures.0 ∙ ap (λ n. take n (touched t)) c.if-n-eq0.true in
     sym (judge_bare keys _ _ _ w a.from.now a.to.now m e (counts (tally_call d)) k.0 k.1
     (λ j h. none_touched (counts (tally_call d)) none j (omega (arith, (spreading d w q).sided.number))))
 
-returns_3 : tie.Need-returns-3
+returns_3 : tie.Need-returns-then-not-spread
 returns_3 c = λ keys m w q e.
     let s = spread_call c.before in
     let d = tallied (touched_call (listed s)) in
     let a = (entry d).args in
-    let no = told_no _ _ s.spread.result c.if3.true s.spread.ensures.1 in
+    let no = told_no _ _ s.spread.result (ap not c.if-not-spread.true) s.spread.ensures.1 in
     sym (judge_none keys _ _ _ w a.from.now a.to.now m e (counts (tally_call d)) (counted d w q).0 (λ z l. no z (l ∙ sym q.each_label)))
 
-returns_4 : tie.Need-returns-4
+returns_4 : tie.Need-returns
 returns_4 c = λ keys m w q e.
     let s = spread_call c.before in
     let t = touched_call (listed s) in
     let d = tallied t in
     let a = (entry d).args in
     let k = counted d w q in
-    let one = some_touched (counts (tally_call d)) (touched t) t.touched.result t.touched.ensures.0 t.touched.ensures.1 (listed s).if2.left in
-    let yes = told_yes _ _ s.spread.result c.if3.false s.spread.ensures.1 in
+    let one = some_touched (counts (tally_call d)) (touched t) t.touched-n.result t.touched-n.ensures.0 t.touched-n.ensures.1 (listed s).if-n-eq0.false in
+    let yes = told_yes _ _ s.spread.result (ap not c.if-not-spread.false) s.spread.ensures.1 in
     sym (judge_carried keys _ _ _ w a.from.now a.to.now m e (counts (tally_call d)) k.0 k.1 (labels s) (s.spread.ensures.0 ∙ q.each_label) yes
     one.0 (omega (arith, one.1, (spreading d w q).sided.number)) one.2)
 
@@ -150,7 +150,7 @@ judge_spec =
     (λ c. search rules)
     returns_2
     (λ c. search rules)
-    (λ c. let t = touched_call c.before.before in sym (length-take-le t.touched.result (touched t) t.touched.ensures.1))
+    (λ c. let t = touched_call c in sym (length-take-le t.touched-n.result (touched t) t.touched-n.ensures.1))
     spread_requires
     (λ c. search rules)
     (λ c. search rules)

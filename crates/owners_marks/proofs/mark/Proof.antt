@@ -13,32 +13,32 @@ use Rattle.owners_marks.proofs.Owning.{next_set, one_more}
 use Rattle.owners_marks.proofs.mark.Statement.{statement}
 use Rattle.owners_marks.proofs.mark.Tie as tie
 
-abbrev invariant_loop : tie.invariant_loop
+abbrev invariant_loop : tie.invariant-loop-t
 invariant_loop labels k sets₀ t₀ sets t = (t ≤ length sets₀) × (length sets ≡ length sets₀) × (sets ≡ marked k (take t labels) sets₀ ++ drop t sets₀)
 
-abbrev decreases_loop : tie.decreases_loop
+abbrev decreases_loop : tie.decreases-loop-t
 decreases_loop labels k sets₀ t₀ sets t = length sets₀ - t
 
-with_mark_requires : tie.Need-with-mark-requires invariant_loop decreases_loop
+with_mark_requires : tie.Need-with_mark-requires invariant_loop decreases_loop
 with_mark_requires c κs =
-    let l = c.before.before.before.loop in
-    let a = c.before.before.before.before.before.before in
+    let l = c.loop-t in
+    let a = c in
     let n = next_set a.args.k l.t a.args.labels.now a.args.sets.now (omega arith) (omega arith) in
     (a.requires.1, rw (l.invariant.2, n) (all_at (λ x. x < 2 ^ a.args.k) 0 a.args.sets.now l.t a.requires.2 (omega arith)))
 
-loop_again : tie.Need-loop-preserved invariant_loop decreases_loop
+loop_again : tie.Need-loop-t-preserved invariant_loop decreases_loop
 loop_again c =
-    let l = c.before.before.before.before.loop in
-    let a = c.before.before.before.before.before.before.before in
+    let l = c.loop-t in
+    let a = c in
     let s = a.args.labels.now in
     let x = a.args.sets.now in
     let n = next_set a.args.k l.t s x (omega arith) (omega arith) in
-    (omega arith, length-set l.sets l.t c.with-mark.result ∙ l.invariant.1, rw (c.with-mark.ensures, l.invariant.2, n, add-one) (one_more a.args.k l.t s x (omega arith) (omega arith)))
+    (omega arith, length-set l.sets l.t c.with_mark.result ∙ l.invariant.1, rw (c.with_mark.ensures, l.invariant.2, n, add-one) (one_more a.args.k l.t s x (omega arith) (omega arith)))
 
 returns : tie.Need-returns invariant_loop decreases_loop
 returns c =
-    let l = c.before.loop in
-    let a = c.before.before.before.before.args in
+    let l = c.loop-t in
+    let a = c.args in
     let f = take_all l.t a.labels.now (omega arith) in
     let r = drop_of_length-le a.sets.now {i = l.t} (omega arith) in
     (l.invariant.2 ∙ rw (f, r) (append-nil (marked a.k a.labels.now a.sets.now)), l.invariant.1)
@@ -59,5 +59,5 @@ mark_spec =
     (λ c. omega arith)
     (λ c. omega arith)
     loop_again
-    (λ c. c.before.loop.invariant.1)
+    (λ c. c.loop-t.invariant.1)
     returns)

@@ -7,14 +7,14 @@ use Rattle.owners_marks.proofs.Bits.{none_stands, one_stands, more_stand}
 use Rattle.owners_marks.proofs.standing_of.Statement.{statement}
 use Rattle.owners_marks.proofs.standing_of.Tie as tie
 
-returns : tie.Need-returns
-returns c = sym (none_stands c.before.args.set c.before.ranges.set.fits c.if1.true)
+returns : tie.Need-returns-then-n-eq0
+returns c = sym (none_stands c.args.set c.ranges.set.fits c.if-n-eq0.true)
 
-returns_2 : tie.Need-returns-2
-returns_2 c = sym (one_stands c.before.before.args.set c.before.before.ranges.set.fits c.if2.true)
+returns_2 : tie.Need-returns-then-n-eq1
+returns_2 c = sym (one_stands c.args.set c.ranges.set.fits c.if-n-eq1.true)
 
-returns_3 : tie.Need-returns-3
-returns_3 c = sym (more_stand c.before.before.args.set c.before.before.ranges.set.fits (many (ones c.before.before.args.set) c.before.if1.false c.if2.false))
+returns_3 : tie.Need-returns
+returns_3 c = sym (more_stand c.args.set c.ranges.set.fits (many (ones c.args.set) c.if-n-eq0.false c.if-n-eq1.false))
   where
     many : (n : ℕ) → (n ≡ 0 → ⊥) → (n ≡ 1 → ⊥) → 2 ≤ n
     many zero p q = absurd (p refl)
@@ -22,4 +22,4 @@ returns_3 c = sym (more_stand c.before.before.args.set c.before.before.ranges.se
     many (suc (suc n)) p q = omega arith
 
 pub standing_of_spec : {M : Type 1} → statement M
-standing_of_spec = tie.close (tie.spec returns (λ c. omega (arith, trailing_le 64 c.before.args.set)) returns_2 returns_3)
+standing_of_spec = tie.close (tie.spec returns (λ c. omega (arith, trailing_le 64 c.args.set)) returns_2 returns_3)

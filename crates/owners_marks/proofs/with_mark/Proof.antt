@@ -11,18 +11,18 @@ use Rattle.owners_marks.proofs.with_mark.Tie as tie
 shifted : (k : ℕ) → k < 64 → 1 * 2 ^ k % 2 ^ 64 ≡ 2 ^ k
 shifted k h = shl_exact {a = 1} 1 k 64 (omega arith) (omega arith) ∙ one-mul (2 ^ k)
 
-add_result : tie.Need-overflow-add-result
+add_result : tie.Need-overflow_add-result
 add_result c =
-    let k = c.before.args.k in
+    let k = c.args.k in
     let e = pow-suc 2 k in
     let m = pow_mono {i = suc k} {j = 64} (omega arith) in
-    let s = shifted k c.before.requires.0 in omega arith
+    let s = shifted k c.requires.0 in omega arith
 
-returns : tie.Need-returns
-returns c = rw (c.if1.true, shifted c.before.args.k c.before.requires.0) (omega arith)
+returns : tie.Need-returns-then-label
+returns c = rw (c.if-label.true, shifted c.args.k c.requires.0) (omega arith)
 
-returns_2 : tie.Need-returns-2
-returns_2 c = rw c.if1.false (omega arith)
+returns_2 : tie.Need-returns
+returns_2 c = rw c.if-label.false (omega arith)
 
 pub with_mark_spec : {M : Type 1} → statement M
 with_mark_spec = tie.close (tie.spec (λ c. search rules) add_result returns returns_2)

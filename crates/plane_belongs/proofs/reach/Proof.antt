@@ -51,13 +51,13 @@ module _ (c : tie.Start) where
   all : to_z w64 (of_z w64 (to_z w64 (of_z w64 (to_z w32 (of_z w32 z))) +ℤ pos 10_000_000)) -ℤ to_z w64 u ≡ z -ℤ millimetres u
   all = rw (sum, to_z_pos w64 u (omega (arith, c.requires))) (shift z u)
 
-cast_result : tie.Need-overflow-cast-result
+cast_result : tie.Need-overflow_cast-result
 cast_result c = rw (alone c) (within_fits 2_147_483_648 _ (lit< tt) (small c))
 
-add_result : tie.Need-overflow-add-result
+add_result : tie.Need-overflow_add-result
 add_result c = rw (same c) (within_fits 2_157_483_648 _ (lit< tt) (added c))
 
-sub_result : tie.Need-overflow-sub-result
+sub_result : tie.Need-overflow_sub-result
 sub_result c = rw (all c) (within_fits 2_157_483_648 _ (lit< tt) (way c))
 
 returns : tie.Need-returns

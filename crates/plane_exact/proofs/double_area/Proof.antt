@@ -28,12 +28,12 @@ returns c =
     let c₄ = c.before in
     let c₃ = c₄.before in
     let c₂ = c₃.before in
-    let c₁ = c₂.before in
-    let a = c₁.before.args in
-    returned _ c.products.type-inv ∙ c.products.ensures
+    let c₁ = c₂ in
+    let a = c₁.args in
+    returned _ c.products.type_inv ∙ c.products.ensures
     ∙ ap₂ ◌+ℤ◌
-    (ap₂ ◌*ℤ◌ (returned _ c₁.way.type-inv ∙ c₁.way.ensures.0) (returned _ c₂.way2.type-inv ∙ c₂.way2.ensures.0))
-    (ap₂ ◌*ℤ◌ (returned _ c₃.way3.type-inv ∙ c₃.way3.ensures.0) (returned _ c₄.way4.type-inv ∙ c₄.way4.ensures.0))
+    (ap₂ ◌*ℤ◌ (returned _ c₁.way.type_inv ∙ c₁.way.ensures.0) (returned _ c₂.way-2.type_inv ∙ c₂.way-2.ensures.0))
+    (ap₂ ◌*ℤ◌ (returned _ c₃.way-3.type_inv ∙ c₃.way-3.ensures.0) (returned _ c₄.way-4.type_inv ∙ c₄.way-4.ensures.0))
     ∙ turn_products (point a.a) (point a.b) (point a.c)
 
 pub double_area_spec : {M : Type 1} → statement M

@@ -19,17 +19,17 @@ product z w h k = within_mul 20_000_000 20_000_000 z w h k
 large : (z w : ℤ) → Within 20_000_000 z → Within 20_000_000 w → to_z w64 (of_z w64 (z *ℤ w)) ≡ z *ℤ w
 large z w h k = exact 400_000_000_000_000 (z *ℤ w) (lit< tt) (product z w h k)
 
-mul_result : tie.Need-overflow-mul-result
+mul_result : tie.Need-overflow_mul-result
 mul_result c = rw (small c.args.a c.requires.0, small c.args.b c.requires.1) (within_fits 400_000_000_000_000 _ (lit< tt) (product _ _ c.requires.0 c.requires.1))
 
-mul_result_2 : tie.Need-overflow-mul-result-2
+mul_result_2 : tie.Need-overflow_mul-result-2
 mul_result_2 c = rw (small c.args.c c.requires.2, small c.args.d c.requires.3) (within_fits 400_000_000_000_000 _ (lit< tt) (product _ _ c.requires.2 c.requires.3))
 
 module _ (c : tie.Start) where
   all : Within 800_000_000_000_000 (c.args.a *ℤ c.args.b +ℤ c.args.c *ℤ c.args.d)
   all = within_add 400_000_000_000_000 400_000_000_000_000 _ _ (product _ _ c.requires.0 c.requires.1) (product _ _ c.requires.2 c.requires.3)
 
-add_result : tie.Need-overflow-add-result
+add_result : tie.Need-overflow_add-result
 add_result c = simp (small c.args.a c.requires.0, small c.args.b c.requires.1, small c.args.c c.requires.2, small c.args.d c.requires.3, large c.args.a c.args.b c.requires.0 c.requires.1, large c.args.c c.args.d c.requires.2 c.requires.3)
     (within_fits 800_000_000_000_000 _ (lit< tt) (all c))
 

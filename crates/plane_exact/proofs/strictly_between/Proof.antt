@@ -12,13 +12,13 @@ use Rattle.plane.proofs.Points.{between_on, between_off}
 use Rattle.plane_exact.proofs.strictly_between.Statement.{statement}
 use Rattle.plane_exact.proofs.strictly_between.Tie as tie
 
-double_area_requires : tie.Need-double-area-requires
+double_area_requires : tie.Need-double_area-requires
 double_area_requires c κs = search rules
 
-returns : tie.Need-returns
+returns : tie.Need-returns-then-double_area-ne0
 returns c =
-    let a = c.before.before.args in
-    sym (between_off (point a.c) (point a.p ⟶ point a.q) (λ e. c.if1.true (ap (of_z w64) (c.before.double-area.ensures ∙ e))))
+    let a = c.args in
+    sym (between_off (point a.c) (point a.p ⟶ point a.q) (λ e. c.if-double_area-ne0.true (ap (of_z w64) (c.double_area.ensures ∙ e))))
 
 way_requires : tie.Need-way-requires
 way_requires c κs = search rules
@@ -35,7 +35,7 @@ way_requires_4 c κs = search rules
 products_requires : tie.Need-products-requires
 products_requires c κs = search rules
 
-returns_2 : tie.Need-returns-2
+returns_2 : tie.Need-returns
 unfolding onward
 returns_2 c =
     let c₄ = c.before in
@@ -43,13 +43,13 @@ returns_2 c =
     let c₂ = c₃.before in
     let c₁ = c₂.before in
     let b = c₁.before in
-    let d = b.before in
-    let a = d.before.args in
-    ap (lt_z (pos 0)) (returned _ c.products.type-inv ∙ c.products.ensures
+    let d = b in
+    let a = d.args in
+    ap (lt_z (pos 0)) (returned _ c.products.type_inv ∙ c.products.ensures
     ∙ ap₂ ◌+ℤ◌
-    (ap₂ ◌*ℤ◌ (returned _ c₁.way.type-inv ∙ c₁.way.ensures.0) (returned _ c₂.way2.type-inv ∙ c₂.way2.ensures.0))
-    (ap₂ ◌*ℤ◌ (returned _ c₃.way3.type-inv ∙ c₃.way3.ensures.0) (returned _ c₄.way4.type-inv ∙ c₄.way4.ensures.0)))
-    ∙ sym (between_on (point a.c) (point a.p ⟶ point a.q) (sym d.double-area.ensures ∙ sym (returned _ d.double-area.type-inv) ∙ ap (to_z w64) b.if1.false))
+    (ap₂ ◌*ℤ◌ (returned _ c₁.way.type_inv ∙ c₁.way.ensures.0) (returned _ c₂.way-2.type_inv ∙ c₂.way-2.ensures.0))
+    (ap₂ ◌*ℤ◌ (returned _ c₃.way-3.type_inv ∙ c₃.way-3.ensures.0) (returned _ c₄.way-4.type_inv ∙ c₄.way-4.ensures.0)))
+    ∙ sym (between_on (point a.c) (point a.p ⟶ point a.q) (sym d.double_area.ensures ∙ sym (returned _ d.double_area.type_inv) ∙ ap (to_z w64) b.if-double_area-ne0.false))
 
 pub strictly_between_spec : {M : Type 1} → statement M
 strictly_between_spec =

@@ -18,13 +18,13 @@ use Rattle.plane_exact.proofs.way.Tie as tie
 shift : (u v : ℕ) → pos v -ℤ pos u ≡ millimetres v -ℤ millimetres u
 shift u v = solve 3 (λ u v k. v :- u := (v :- k) :- (u :- k)) tt (pos u) (pos v) (pos 10_000_000)
 
-cast_result : tie.Need-overflow-cast-result
+cast_result : tie.Need-overflow_cast-result
 cast_result c = search rules
 
-cast_result_2 : tie.Need-overflow-cast-result-2
+cast_result_2 : tie.Need-overflow_cast-result-2
 cast_result_2 c = search rules
 
-sub_result : tie.Need-overflow-sub-result
+sub_result : tie.Need-overflow_sub-result
 sub_result c =
     let a = c.args in
     rw (to_z_pos w64 a.v (omega arith), to_z_pos w64 a.u (omega arith)) (within_fits 20_000_000 _ (lit< tt) (within_gap 20_000_000 a.u a.v c.requires.0 c.requires.1))

@@ -17,19 +17,19 @@ unfolding length_of
 is_length e a b r p q s = s ∙ ap₂ (λ a b. root (a * a + b * b)) p q
 
 -- The squares of the two ways, which were found by the two calls.
-squares : (c : tie.After-apart2) → (c.before.apart.result * c.before.apart.result ≤ 400_000_000_000_000) × (c.apart2.result * c.apart2.result ≤ 400_000_000_000_000)
-squares c = (square_most _ 20_000_000 c.before.apart.ensures.1, square_most _ 20_000_000 c.apart2.ensures.1)
+squares : (c : tie.After-apart-dy) → (c.apart-dx.result * c.apart-dx.result ≤ 400_000_000_000_000) × (c.apart-dy.result * c.apart-dy.result ≤ 400_000_000_000_000)
+squares c = (square_most _ 20_000_000 c.apart-dx.ensures.1, square_most _ 20_000_000 c.apart-dy.ensures.1)
 
 root_requires : tie.Need-root-requires
 root_requires c κs = let s = squares c in omega (arith, s.0, s.1)
 
 returns : tie.Need-returns
 returns c =
-    let b = c.before in
-    let a = b.before.before.args in
+    let b = c in
+    let a = b.args in
     let e = point a.u ⟶ point a.v in
-    let x = b.before.apart.ensures in
-    let y = b.apart2.ensures in
+    let x = b.apart-dx.ensures in
+    let y = b.apart-dy.ensures in
     let r = is_length e _ _ _ x.0 y.0 c.root.ensures in
     (r, subst (λ n. n ≤ 28_284_271) (sym r) (length_most e (omega (arith, x.0, x.1)) (omega (arith, y.0, y.1))))
 

@@ -20,18 +20,18 @@ by_length : (way : ℕ) (lengths opposite numbers : List ℕ) (marks : List Bool
 by_length zero lengths opposite numbers marks e = absurd (e refl)
 by_length (suc way) lengths opposite numbers marks e = refl
 
-returns : tie.Need-returns
+returns : tie.Need-returns-then-way-eq0
 returns c = λ marks is.
     let t = c.before in
-    let s = t.before.before.before.before.before in
+    let s = t in
     let a = s.args in
-    best_largest s.requires.0.sides s.requires.6 is c.highest.ensures ∙ by_priority a.way (lengths_held a.table.now (length a.opposite.now)) a.opposite.now a.numbers.now marks t.if1.true
+    best_largest s.requires.0.sides s.requires.6 is c.highest.ensures ∙ by_priority a.way (lengths_held a.table.now (length a.opposite.now)) a.opposite.now a.numbers.now marks t.if-way-eq0.true
 
-returns_2 : tie.Need-returns-2
+returns_2 : tie.Need-returns
 returns_2 c = λ marks is.
-    let t = c.before in
-    let a = t.before.before.before.before.before.args in
-    c.longest.ensures marks is ∙ by_length a.way (lengths_held a.table.now (length a.opposite.now)) a.opposite.now a.numbers.now marks t.if1.false
+    let t = c in
+    let a = t.args in
+    c.longest.ensures marks is ∙ by_length a.way (lengths_held a.table.now (length a.opposite.now)) a.opposite.now a.numbers.now marks t.if-way-eq0.false
 
 pub choose_spec : {M : Type 1} → statement M
 choose_spec =

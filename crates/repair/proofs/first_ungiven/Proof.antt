@@ -10,25 +10,25 @@ use Rattle.repair.proofs.Giving.{zero_found, zero_nowhere}
 use Rattle.repair.proofs.first_ungiven.Statement.{statement}
 use Rattle.repair.proofs.first_ungiven.Tie as tie
 
-abbrev invariant_loop : tie.invariant_loop
+abbrev invariant_loop : tie.invariant-loop-t
 invariant_loop owners t₀ t = (t ≤ length owners) × NoZero owners t
 
-abbrev decreases_loop : tie.decreases_loop
+abbrev decreases_loop : tie.decreases-loop-t
 decreases_loop owners t₀ t = length owners - t
 
-loop_holds : tie.Need-loop-init invariant_loop decreases_loop
+loop_holds : tie.Need-loop-t-init invariant_loop decreases_loop
 loop_holds c = (omega arith, λ i h z. omega arith)
 
-returns : tie.Need-returns invariant_loop decreases_loop
+returns : tie.Need-returns-then-owners-t-eq0 invariant_loop decreases_loop
 returns c =
-    let l = c.before.before.before.loop in
-    (zero_found c.before.before.before.before.args.owners.now l.t (omega arith) c.if1.true l.invariant.1, omega arith)
+    let l = c.loop-t in
+    (zero_found c.args.owners.now l.t (omega arith) c.if-owners-t-eq0.true l.invariant.1, omega arith)
 
-loop_again : tie.Need-loop-preserved invariant_loop decreases_loop
-loop_again c = let l = c.before.before.before.loop in (omega arith, one_further (λ i. get_or c.before.before.before.before.args.owners.now i 0 ≡ 0 → ⊥) l.t l.invariant.1 c.if1.false)
+loop_again : tie.Need-loop-t-preserved invariant_loop decreases_loop
+loop_again c = let l = c.loop-t in (omega arith, one_further (λ i. get_or c.args.owners.now i 0 ≡ 0 → ⊥) l.t l.invariant.1 c.if-owners-t-eq0.false)
 
-returns_2 : tie.Need-returns-2 invariant_loop decreases_loop
-returns_2 c = (zero_nowhere c.before.before.args.owners.now (λ i h. c.before.loop.invariant.1 i (omega arith)), omega arith)
+returns_2 : tie.Need-returns invariant_loop decreases_loop
+returns_2 c = (zero_nowhere c.args.owners.now (λ i h. c.loop-t.invariant.1 i (omega arith)), omega arith)
 
 pub first_ungiven_spec : {M : Type 1} → statement M
 first_ungiven_spec =

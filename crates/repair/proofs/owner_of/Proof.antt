@@ -7,21 +7,21 @@ use Rattle.repair.proofs.Filling.{settled_small}
 use Rattle.repair.proofs.owner_of.Statement.{statement}
 use Rattle.repair.proofs.owner_of.Tie as tie
 
-returns : tie.Need-returns
-returns c = ap settled_by (sym c.enum_told.given.1 ∙ c.before.before.standing-of.ensures)
+returns : tie.Need-returns-in-Gap
+returns c = ap settled_by (sym c.in-Gap.is ∙ c.standing_of.ensures)
 
-returns_2 : tie.Need-returns-2
-returns_2 c = ap settled_by (sym c.before.k.given.1 ∙ c.before.before.before.standing-of.ensures)
+returns_2 : tie.Need-returns-in-Single
+returns_2 c = ap settled_by (sym c.in-Single.is ∙ c.standing_of.ensures)
 
-returns_3 : tie.Need-returns-3
-returns_3 c = ap settled_by (sym c.before.k2.given.1 ∙ c.before.before.before.standing-of.ensures)
+returns_3 : tie.Need-returns-in-Overlap
+returns_3 c = ap settled_by (sym c.in-Overlap.is ∙ c.standing_of.ensures)
 
 -- A settled number is a byte.
-cast_result : tie.Need-overflow-cast-result
-cast_result c = omega (arith, returns_2 c, settled_small c.before.before.before.before.args.set)
+cast_result : tie.Need-overflow_cast-result
+cast_result c = omega (arith, returns_2 c, settled_small c.args.set)
 
-cast_result_2 : tie.Need-overflow-cast-result-2
-cast_result_2 c = omega (arith, returns_3 c, settled_small c.before.before.before.before.args.set)
+cast_result_2 : tie.Need-overflow_cast-result-in-Overlap
+cast_result_2 c = omega (arith, returns_3 c, settled_small c.args.set)
 
 pub owner_of_spec : {M : Type 1} → statement M
 owner_of_spec =

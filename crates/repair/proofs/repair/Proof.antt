@@ -21,7 +21,7 @@ pub repair_spec : {M : Type 1} → statement M
 repair_spec =
     tie.close
     (tie.spec
-    (λ c. unknown _ _ _ _ _ c.if1.true)
+    (λ c. unknown _ _ _ _ _ c.if-way-gt1.true)
     (λ c κs. search rules)
     (λ c. search rules)
-    (λ c. is_known _ _ _ _ _ _ _ (omega (arith, c.before.before.before.before.if1.false)) c.before.before.in-way.ensures))
+    (λ c. is_known _ _ _ _ _ _ _ (omega (arith, c.if-way-gt1.false)) c.in_way.ensures))

@@ -5,9 +5,9 @@ use Rattle.repair.proofs.with_triangle.Tie as tie
 
 returns : tie.Need-returns
 returns c =
-    let e = c.before.before.with-side.ensures in
-    let f = c.before.with-side2.ensures in
-    rw (← e, ← f) c.with-side3.ensures
+    let e = c.with_side-a.ensures in
+    let f = c.with_side-b.ensures in
+    rw (← e, ← f) c.with_side.ensures
 
 pub with_triangle_spec : {M : Type 1} → statement M
 with_triangle_spec =

@@ -6,18 +6,18 @@ use Rattle.repair_follower.proofs.Along.{turned_frame, turned_inner, across_belo
 use Rattle.repair_follower.proofs.turned_to.Statement.{statement}
 use Rattle.repair_follower.proofs.turned_to.Tie as tie
 
-returns : tie.Need-returns
+returns : tie.Need-returns-then-opposite-k-eq0
 returns c =
-    let s = c.before.before.before.before.before in
+    let s = c in
     let o = s.args.opposite.now in
-    let a = c.along-frame.ensures in
-    (a.0 ∙ ap (along_frame o) c.before.next-side.ensures ∙ turned_frame o s.args.k c.before.before.if1.true, a.1)
+    let a = c.along_frame.ensures in
+    (a.0 ∙ ap (along_frame o) c.next_side.ensures ∙ turned_frame o s.args.k c.if-opposite-k-eq0.true, a.1)
 
-returns_2 : tie.Need-returns-2
+returns_2 : tie.Need-returns
 returns_2 c =
-    let s = c.before.before.before.before in
+    let s = c in
     let o = s.args.opposite.now in
-    let f = c.before.if1.false in
+    let f = c.if-opposite-k-eq0.false in
     (turned_inner o s.args.k f, across_below o s.args.k s.requires.0.1 f)
 
 pub turned_to_spec : {M : Type 1} → statement M

@@ -30,27 +30,27 @@ module _ (sums : List ℕ) (m n : ℕ) where
   equal h k = sym (ap₂ (λ b c. cond b m (cond c n (greater m n))) (le-ltb y x h) (le-ltb x y k))
 
 -- ---- the needs
-returns : tie.Need-returns
-returns c = let a = c.before.before.before.args in first a.sums.now a.best a.m c.if1.true
+returns : tie.Need-returns-then-sums-m
+returns c = let a = c.args in first a.sums.now a.best a.m c.if-sums-m.true
 
-returns_2 : tie.Need-returns-2
+returns_2 : tie.Need-returns-then-sums-best
 returns_2 c =
-    let e = c.before.before.before in
-    let a = e.before.before.before.args in
-    second a.sums.now a.best a.m (omega (arith, e.if1.false)) c.if2.true
+    let e = c in
+    let a = e.args in
+    second a.sums.now a.best a.m (omega (arith, e.if-sums-m.false)) c.if-sums-best.true
 
 -- Where the sums are equal.
-same_sums : (c : tie.Else2) → let a = c.before.before.before.before.before.before.args in greater a.best a.m ≡ preferred a.sums.now a.best a.m
+same_sums : (c : tie.Else-sums-best) → let a = c.args in greater a.best a.m ≡ preferred a.sums.now a.best a.m
 same_sums c =
-    let e = c.before.before.before in
-    let a = e.before.before.before.args in
-    equal a.sums.now a.best a.m (omega (arith, e.if1.false)) (omega (arith, c.if2.false))
+    let e = c in
+    let a = e.args in
+    equal a.sums.now a.best a.m (omega (arith, e.if-sums-m.false)) (omega (arith, c.if-sums-best.false))
 
-returns_3 : tie.Need-returns-3
-returns_3 c = let a = c.before.before.before.before.before.before.before.args in sym (ap (λ b. cond b a.m a.best) (le-leb a.best a.m c.if3.true)) ∙ same_sums c.before
+returns_3 : tie.Need-returns-then-best-m
+returns_3 c = let a = c.args in sym (ap (λ b. cond b a.m a.best) (le-leb a.best a.m c.if-best-m.true)) ∙ same_sums c.before
 
-returns_4 : tie.Need-returns-4
-returns_4 c = let a = c.before.before.before.before.before.before.before.args in sym (ap (λ b. cond b a.m a.best) (lt-leb a.best a.m (omega (arith, c.if3.false)))) ∙ same_sums c.before
+returns_4 : tie.Need-returns
+returns_4 c = let a = c.args in sym (ap (λ b. cond b a.m a.best) (lt-leb a.best a.m (omega (arith, c.if-best-m.false)))) ∙ same_sums c.before
 
 pub preferred_spec : {M : Type 1} → statement M
 preferred_spec =

@@ -26,7 +26,7 @@ is_length table k r h =
 
 length_requires : tie.Need-length-requires
 length_requires c κs =
-    let t = c.before.before.before.before.before.requires in
+    let t = c.requires in
     (record { x = t.held _ (omega arith); y = t.held _ (omega arith) }, record { x = t.held _ (omega arith); y = t.held _ (omega arith) })
 
 returns : tie.Need-returns

@@ -9,7 +9,7 @@ use Rattle.repair_point.proofs.belongs_to.Tie as tie
 
 belongs_requires : tie.Need-belongs-requires
 belongs_requires c κs =
-    let t = c.before.before.before.before.before.before.before.requires in (
+    let t = c.requires in (
       record { x = t.held _ (omega arith); y = t.held _ (omega arith) },
       record { x = t.held _ (omega arith); y = t.held _ (omega arith) },
       record { x = t.held _ (omega arith); y = t.held _ (omega arith) },
@@ -17,7 +17,7 @@ belongs_requires c κs =
 
 returns : tie.Need-returns
 returns c =
-    let s = c.before.before.before.before.before.before.before.before in
+    let s = c in
     c.belongs.ensures ∙ ap₂ belongs (read_back s.args.x s.args.y s.ranges.x s.ranges.y) (six_held s.args.table.now s.args.t)
 
 pub belongs_to_spec : {M : Type 1} → statement M

@@ -19,46 +19,46 @@ use Rattle.repair_point.proofs.owner_at.Statement.{statement}
 use Rattle.repair_point.proofs.owner_at.Tie as tie
 
 -- ---- places: the entry of the function, the call of `repair`, and the owner numbers that it left
-abbrev start : tie.After-repair → tie.Start
+abbrev start : tie.After-repair-repaired → tie.Start
 start c = c.before.before.before.before.before
 
-abbrev call : tie.After-enum-told → tie.After-repair
-call c = c.before.before.before
+abbrev call : tie.In_default → tie.After-repair-repaired
+call c = c.before.before
 
-abbrev owners : tie.After-enum-told → List ℕ
-owners c = (call c).repair.new.1.1.1.1.0
+abbrev owners : tie.In_default → List ℕ
+owners c = (call c).repair-repaired.new.owners
 
-many : (c : tie.After-enum-told) → length (owners c) ≡ length (start (call c)).args.sets.now
-many c = as_many (call c).repair.ensures c.enum_told.given.1 ∙ length-map (start (call c)).args.sets.now owners_of
+many : (c : tie.In_default) → length (owners c) ≡ length (start (call c)).args.sets.now
+many c = as_many (call c).repair-repaired.ensures c.in_default.is ∙ length-map (start (call c)).args.sets.now owners_of
 
 -- ---- what is answered, by the owner numbers
 abbrev there : tie.Start → Point → List ℕ → Outcome
 there s z l = owner_there (triangle_of z (triangles_held s.args.table.now (length s.args.sets.now))) l
 
-repair_requires : tie.Need-repair-requires
-repair_requires c κs = let p = c.before.before.before.before.requires in (p.0, length-take-le _ _ (omega arith), p.1, p.2)
+repair_requires : tie.Need-repair-repaired-requires
+repair_requires c κs = let p = c.requires in (p.0, length-take-le _ _ (omega arith), p.1, p.2)
 
-returns : tie.Need-returns
+returns : tie.Need-returns-in-Refused
 returns c =
-    let k = c.before in
-    let s = start k.before.before.before in
-    sym (ap (λ o. answer_of o []) (not_repaired k.before.before.before.repair.ensures (there s (record { x = s.args.x; y = s.args.y })) k.repaired.given.1))
+    let k = c in
+    let s = start k.before.before in
+    sym (ap (λ o. answer_of o []) (not_repaired k.repair-repaired.ensures (there s (record { x = s.args.x; y = s.args.y })) k.in-Refused.is))
 
-owner_there_requires : tie.Need-owner-there-requires
+owner_there_requires : tie.Need-owner_there-requires
 owner_there_requires c κs =
     let e = c.before in
     let s = start (call e) in
-    subst (TableIn s.args.table.now) (sym (ap length (front (owners e) _ _ (many e)) ∙ many e)) s.pre.2
+    subst (TableIn s.args.table.now) (sym (ap length (front (owners e) _ _ (many e)) ∙ many e)) s.requires.2
 
-returns_2 : tie.Need-returns-2
+returns_2 : tie.Need-returns
 returns_2 c =
     let e = c.before.before in
     let s = start (call e) in
     let z : Point = record { x = s.args.x; y = s.args.y } in
-    c.owner-there.ensures
+    c.owner_there.ensures
     ∙ ap (λ l. answer_of (owner_there (triangle_of (bits s.args.x s.args.y) (triangles_held s.args.table.now (length l))) l) []) (front (owners e) _ _ (many e))
-    ∙ ap₂ (λ z n. answer_of (owner_there (triangle_of z (triangles_held s.args.table.now n)) (owners e)) []) (read_back s.args.x s.args.y s.fits.x s.fits.y) (many e)
-    ∙ sym (ap (λ o. answer_of o []) (goes_on (call e).repair.ensures e.enum_told.given.1 (there s z)))
+    ∙ ap₂ (λ z n. answer_of (owner_there (triangle_of z (triangles_held s.args.table.now n)) (owners e)) []) (read_back s.args.x s.args.y s.ranges.x s.ranges.y) (many e)
+    ∙ sym (ap (λ o. answer_of o []) (goes_on (call e).repair-repaired.ensures e.in_default.is (there s z)))
 
 pub owner_at_spec : {M : Type 1} → statement M
 owner_at_spec =

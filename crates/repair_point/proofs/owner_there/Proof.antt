@@ -14,28 +14,28 @@ use Rattle.repair_point.proofs.owner_there.Statement.{statement}
 use Rattle.repair_point.proofs.owner_there.Tie as tie
 
 -- ---- places: the entry of the function
-abbrev start : tie.After-triangle-of → tie.Start
+abbrev start : tie.After-triangle_of-t → tie.Start
 start c = c.before.before.before
 
 -- What was found.
 abbrev z : tie.Start → Point
 z s = record { x = s.args.x; y = s.args.y }
 
-number : (c : tie.After-triangle-of) → let a = (start c).args in c.triangle-of.result ≡ item_of (triangle_of (z (start c)) (triangles_held a.table.now (length a.owners.now)))
-number c = let s = start c in found_point s.args.x s.args.y s.fits.x s.fits.y s.args.table.now (length s.args.owners.now) c.triangle-of.ensures.0
+number : (c : tie.After-triangle_of-t) → let a = (start c).args in c.triangle_of-t.result ≡ item_of (triangle_of (z (start c)) (triangles_held a.table.now (length a.owners.now)))
+number c = let s = start c in found_point s.args.x s.args.y s.ranges.x s.ranges.y s.args.table.now (length s.args.owners.now) c.triangle_of-t.ensures.0
 
-returns : tie.Need-returns
+returns : tie.Need-returns-then-t-eq0
 returns c =
     let a = (start c.before).args in
     let l = triangles_held a.table.now (length a.owners.now) in
     let d = triangle_held a.table.now 0 in
-    not_there (triangle_of (z (start c.before)) l) a.owners.now (z (start c.before)) d l (first_is (z (start c.before)) d l) (sym c.if1.true ∙ number c.before)
+    not_there (triangle_of (z (start c.before)) l) a.owners.now (z (start c.before)) d l (first_is (z (start c.before)) d l) (sym c.if-t-eq0.true ∙ number c.before)
 
-returns_2 : tie.Need-returns-2
+returns_2 : tie.Need-returns
 returns_2 c =
     let e = c.before in
     let s = start e.before in
-    there (triangle_of (z s) (triangles_held s.args.table.now (length s.args.owners.now))) s.args.owners.now e.before.triangle-of.result (number e.before) e.if1.false
+    there (triangle_of (z s) (triangles_held s.args.table.now (length s.args.owners.now))) s.args.owners.now e.triangle_of-t.result (number e.before) e.if-t-eq0.false
 
 pub owner_there_spec : {M : Type 1} → statement M
 owner_there_spec =
@@ -45,6 +45,6 @@ owner_there_spec =
     returns
     (λ c. search rules)
     (λ c. search rules)
-    (λ c. omega (arith, c.shared-slice-known3.given (c.before.before.triangle-of.result - 1)))
-    (λ c. omega (arith, c.shared-slice-known3.given (c.before.before.triangle-of.result - 1)))
+    (λ c. omega (arith, c.shared_slice_known-3-1.given (c.triangle_of-t.result - 1)))
+    (λ c. omega (arith, c.shared_slice_known-3-1.given (c.triangle_of-t.result - 1)))
     returns_2)

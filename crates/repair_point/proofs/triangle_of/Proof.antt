@@ -10,40 +10,40 @@ use Rattle.repair_point.proofs.Finding.{bits, found_point, NoneBefore, one_more,
 use Rattle.repair_point.proofs.triangle_of.Statement.{statement}
 use Rattle.repair_point.proofs.triangle_of.Tie as tie
 
-abbrev invariant_loop : tie.invariant_loop
+abbrev invariant_loop : tie.invariant-loop-t
 invariant_loop table n x y t₀ t = (t ≤ n) × NoneBefore (record { x = to_z w32 x; y = to_z w32 y }) table t
 
-abbrev decreases_loop : tie.decreases_loop
+abbrev decreases_loop : tie.decreases-loop-t
 decreases_loop table n x y t₀ t = n - t
 
 -- ---- places: the entry of the function
-abbrev start : tie.After-belongs-to invariant_loop decreases_loop → tie.Start invariant_loop decreases_loop
+abbrev start : tie.After-belongs_to invariant_loop decreases_loop → tie.Start invariant_loop decreases_loop
 start c = c.before.before.before.before
 
-loop_holds : tie.Need-loop-init invariant_loop decreases_loop
+loop_holds : tie.Need-loop-t-init invariant_loop decreases_loop
 loop_holds c = (omega arith, λ u h. absurd (omega arith))
 
-belongs_to_requires : tie.Need-belongs-to-requires invariant_loop decreases_loop
-belongs_to_requires c κs = table_fewer (c.before.loop.t + 1) (omega arith) c.before.before.before.requires
+belongs_to_requires : tie.Need-belongs_to-requires invariant_loop decreases_loop
+belongs_to_requires c κs = table_fewer (c.loop-t.t + 1) (omega arith) c.requires
 
-returns : tie.Need-returns invariant_loop decreases_loop
+returns : tie.Need-returns-then-belongs_to invariant_loop decreases_loop
 returns c =
     let b = c.before in
-    let l = b.before.before.loop in
+    let l = b.loop-t in
     let s = start b in
-    (found_point s.args.x s.args.y s.fits.x s.fits.y s.args.table.now s.args.n (found (bits s.args.x s.args.y) s.args.table.now s.args.n l.t (omega arith) (sym b.belongs-to.ensures ∙ c.if1.true) l.invariant.1), omega arith)
+    (found_point s.args.x s.args.y s.ranges.x s.ranges.y s.args.table.now s.args.n (found (bits s.args.x s.args.y) s.args.table.now s.args.n l.t (omega arith) (sym b.belongs_to.ensures ∙ c.if-belongs_to.true) l.invariant.1), omega arith)
 
-loop_again : tie.Need-loop-preserved invariant_loop decreases_loop
+loop_again : tie.Need-loop-t-preserved invariant_loop decreases_loop
 loop_again c =
     let b = c.before in
-    let l = b.before.before.loop in
+    let l = b.loop-t in
     let s = start b in
-    (omega arith, one_more (bits s.args.x s.args.y) s.args.table.now l.t l.invariant.1 (sym b.belongs-to.ensures ∙ c.if1.false))
+    (omega arith, one_more (bits s.args.x s.args.y) s.args.table.now l.t l.invariant.1 (sym b.belongs_to.ensures ∙ c.if-belongs_to.false))
 
-returns_2 : tie.Need-returns-2 invariant_loop decreases_loop
+returns_2 : tie.Need-returns invariant_loop decreases_loop
 returns_2 c =
-    let l = c.before.loop in
-    let s = c.before.before.before in
+    let l = c.loop-t in
+    let s = c in
     (found_point s.args.x s.args.y s.ranges.x s.ranges.y s.args.table.now s.args.n (nowhere (bits s.args.x s.args.y) s.args.table.now s.args.n (λ u h. l.invariant.1 u (omega arith))), omega arith)
 
 pub triangle_of_spec : {M : Type 1} → statement M

@@ -6,41 +6,41 @@ use borrow.Author.Rules.{rules}
 use Rattle.repair_regions.proofs.around.Statement.{statement}
 use Rattle.repair_regions.proofs.around.Tie as tie
 
-mul_k : tie.Need-overflow-mul-k
+mul_k : tie.Need-overflow_mul-k
 mul_k c = search rules
 
-cross_requires : tie.Need-cross-requires
+cross_requires : tie.Need-cross-a-requires
 cross_requires c κs = search rules
 
-add_cross : tie.Need-overflow-add-cross
+add_cross : tie.Need-overflow_add-k
 add_cross c = search rules
 
-cross_requires_2 : tie.Need-cross-requires-2
+cross_requires_2 : tie.Need-cross-b-requires
 cross_requires_2 c κs =
-    let s = c.before.before.before.before.before.before.before.before.before.before.before.before.before in
-    (s.requires.0, c.before.before.before.before.before.before.cross.ensures.0.meeting, omega (arith, s.requires.0.sides, s.requires.2))
+    let s = c in
+    (s.requires.0, c.cross-a.ensures.0.meeting, omega (arith, s.requires.0.sides, s.requires.2))
 
-add_cross_2 : tie.Need-overflow-add-cross-2
+add_cross_2 : tie.Need-overflow_add-k-2
 add_cross_2 c = search rules
 
-cross_requires_3 : tie.Need-cross-requires-3
+cross_requires_3 : tie.Need-cross-requires
 cross_requires_3 c κs =
-    let s = c.before.before.before.before.before.before.before.before.before.before.before.before.before.before.before.before.before.before.before.before in
-    (s.requires.0, c.before.before.before.before.before.before.cross2.ensures.0.meeting, omega (arith, s.requires.0.sides, s.requires.2))
+    let s = c in
+    (s.requires.0, c.cross-b.ensures.0.meeting, omega (arith, s.requires.0.sides, s.requires.2))
 
-same_length : tie.Need-same-length
+same_length : tie.Need-shape_of-met
 same_length c = search rules
 
-same_length_2 : tie.Need-same-length-2
+same_length_2 : tie.Need-shape_of-group
 same_length_2 c = search rules
 
 returns : tie.Need-returns
 returns c =
-    let s = c.before.before.before.before.before.before.before.before.before.before.before.before.before.before.before.before.before.before.before.before.before.before.before.before.before in
+    let s = c in
     let u = s.args.u in
-    let a = c.before.before.before.before.before.before.before.before.before.before.before.before.before.before.before.before.before.before.cross.ensures in
-    let b = c.before.before.before.before.before.before.before.before.before.before.before.cross2.ensures in
-    let d = c.before.before.before.before.cross3.ensures in
+    let a = c.cross-a.ensures in
+    let b = c.cross-b.ensures in
+    let d = c.cross.ensures in
     let f = fresh_side (3 * u) u (omega arith) a.2 in
     let g = fresh_side (3 * u + 1) u (omega arith) b.2 in
     let h = fresh_side (3 * u + 2) u (omega arith) d.2 in (

@@ -23,14 +23,14 @@ use Rattle.repair_side_bytes.proofs.boundary.Statement.{statement}
 use Rattle.repair_side_bytes.proofs.boundary.Tie as tie
 
 -- ---- places: the entry of the function, the call of `repair`, the owner numbers that it left
-abbrev start : tie.After-repair → tie.Start
+abbrev start : tie.After-repair-repaired → tie.Start
 start c = c.before.before.before.before.before.before
 
-abbrev call : tie.After-enum-told → tie.After-repair
-call c = c.before.before.before
+abbrev call : tie.In_default → tie.After-repair-repaired
+call c = c.before.before
 
-abbrev owners : tie.After-enum-told → List ℕ
-owners c = (call c).repair.new.1.1.1.1.0
+abbrev owners : tie.In_default → List ℕ
+owners c = (call c).repair-repaired.new.owners
 
 -- What is answered.
 abbrev comes : tie.Start → Outcome
@@ -40,87 +40,87 @@ comes s = let a = s.args in sides_outcome a.numbers.now a.way (lengths_held a.nu
 abbrev sides_for : tie.Start → List ℕ → Outcome
 sides_for s l = sides_held s.args.numbers.now (boundary_numbers s.args.opposite.now l s.args.polygon)
 
-many : (c : tie.After-enum-told) → length (owners c) ≡ length (start (call c)).args.sets.now
-many c = as_many (call c).repair.ensures c.enum_told.given.1 ∙ length-map (start (call c)).args.sets.now owners_of
+many : (c : tie.In_default) → length (owners c) ≡ length (start (call c)).args.sets.now
+many c = as_many (call c).repair-repaired.ensures c.in_default.is ∙ length-map (start (call c)).args.sets.now owners_of
 
 -- There is room for as many sides as the largest table has.
 fits : (c : tie.Start) → length c.args.opposite.now ≤ 3072
 fits c = omega (arith, c.requires.0.sides, c.requires.1)
 
 -- ---- the call of `repair_sides::boundary`, the sides that it left, and the numbers of the boundary sides
-abbrev owned : tie.After-boundary → tie.After-enum-told
+abbrev owned : tie.After-boundary-k → tie.In_default
 owned c = c.before.before.before
 
-abbrev entry : tie.After-boundary → tie.Start
+abbrev entry : tie.After-boundary-k → tie.Start
 entry c = start (call (owned c))
 
-abbrev left : tie.After-boundary → List ℕ
-left c = c.boundary.new.1.1.1.0
+abbrev left : tie.After-boundary-k → List ℕ
+left c = c.boundary-k.new.sides
 
-abbrev sides : tie.After-boundary → List ℕ
+abbrev sides : tie.After-boundary-k → List ℕ
 sides c = let a = (entry c).args in boundary_numbers a.opposite.now (owners (owned c)) a.polygon
 
-found : (c : tie.After-boundary) → (c.boundary.result ≤ length (left c)) × (take c.boundary.result (left c) ≡ sides c)
+found : (c : tie.After-boundary-k) → (c.boundary-k.result ≤ length (left c)) × (take c.boundary-k.result (left c) ≡ sides c)
 found c =
     let a = (entry c).args in
-    let l = front_laid c.boundary.ensures in
+    let l = front_laid c.boundary-k.ensures in
     (l.0, l.1 ∙ ap (λ o. boundary_numbers a.opposite.now o a.polygon) (front (owners (owned c)) _ _ (many (owned c))))
 
-count : (c : tie.After-boundary) → length (sides c) ≡ c.boundary.result
+count : (c : tie.After-boundary-k) → length (sides c) ≡ c.boundary-k.result
 count c = ap length (sym (found c).1) ∙ length-take-le _ _ (found c).0
 
 -- They stand at the front of the work list.
-sides_room : (c : tie.After-boundary) (rest : List ℕ) → c.boundary.result ≤ length (left c ++ rest)
+sides_room : (c : tie.After-boundary-k) (rest : List ℕ) → c.boundary-k.result ≤ length (left c ++ rest)
 sides_room c rest = omega (arith, length-append (left c) rest, (found c).0)
 
-sides_front : (c : tie.After-boundary) (rest : List ℕ) → take c.boundary.result (left c ++ rest) ≡ sides c
+sides_front : (c : tie.After-boundary-k) (rest : List ℕ) → take c.boundary-k.result (left c ++ rest) ≡ sides c
 sides_front c rest = take-append-le _ (left c) rest (found c).0 ∙ (found c).1
 
 -- What is answered is those sides, 16 bytes each.
-outcome : (c : tie.After-boundary) → comes (entry c) ≡ sides_held (entry c).args.numbers.now (sides c)
-outcome c = goes_on (call (owned c)).repair.ensures (owned c).enum_told.given.1 (sides_for (entry c))
+outcome : (c : tie.After-boundary-k) → comes (entry c) ≡ sides_held (entry c).args.numbers.now (sides c)
+outcome c = goes_on (call (owned c)).repair-repaired.ensures (owned c).in_default.is (sides_for (entry c))
 
-sixteen : (c : tie.After-boundary) → let h = side_held (entry c).args.numbers.now in length (flat_map h (sides c)) ≡ 16 * length (sides c)
+sixteen : (c : tie.After-boundary-k) → let h = side_held (entry c).args.numbers.now in length (flat_map h (sides c)) ≡ 16 * length (sides c)
 sixteen c = let n = (entry c).args.numbers.now in all_length 16 (side_held n) (side_length n) (sides c)
 
-repair_requires : tie.Need-repair-requires
-repair_requires c κs = let p = c.before.before.before.before.before.requires in (p.0, length-take-le _ _ (omega (arith, p.1)), p.1, p.2)
+repair_requires : tie.Need-repair-repaired-requires
+repair_requires c κs = let p = c.requires in (p.0, length-take-le _ _ (omega (arith, p.1)), p.1, p.2)
 
-returns : tie.Need-returns
-returns c = let k = c.before in let r = k.before.before.before in answered_refusal _ _ _ _ (not_repaired r.repair.ensures (sides_for (start r)) k.repaired.given.1)
+returns : tie.Need-returns-in-Refused
+returns c = let k = c in let r = k.before.before in answered_refusal _ _ _ _ (not_repaired r.repair-repaired.ensures (sides_for (start r)) k.in-Refused.is)
 
-boundary_requires : tie.Need-boundary-requires
+boundary_requires : tie.Need-boundary-k-requires
 boundary_requires c κs =
     let e = c.before.before in
     let s = start (call e) in
-    (subst (Paired s.args.opposite.now) (sym (ap length (front (owners e) _ _ (many e)) ∙ many e)) s.pre.0, length-take-le _ _ (fits s))
+    (subst (Paired s.args.opposite.now) (sym (ap length (front (owners e) _ _ (many e)) ∙ many e)) s.requires.0, length-take-le _ _ (fits s))
 
-returns_2 : tie.Need-returns-2
+returns_2 : tie.Need-returns-then-out-k
 returns_2 c = let b = c.before.before in answered_short _ _ (length (sides b)) _ (outcome b) (omega (arith, sixteen b, count b))
 
-write_sides_requires : tie.Need-write-sides-requires
+write_sides_requires : tie.Need-write_sides-requires
 write_sides_requires c κs =
     let b = c.before.before.before.before in
     let s = entry b in
     let a = s.args in (
-      subst (All (SideIn a.numbers.now)) (sym (sides_front b _)) (sides_in a.numbers.now a.opposite.now (owners (owned b)) a.polygon (length a.sets.now) s.pre.0 s.pre.2.room),
+      subst (All (SideIn a.numbers.now)) (sym (sides_front b _)) (sides_in a.numbers.now a.opposite.now (owners (owned b)) a.polygon (length a.sets.now) s.requires.0 s.requires.2.room),
       subst (λ l. 16 * length l ≤ length a.out.now) (sym (sides_front b _)) (omega (arith, count b)),
     )
 
-mul_result_2 : tie.Need-overflow-mul-result-2
+mul_result_2 : tie.Need-overflow_mul-result-2
 mul_result_2 c =
     let b = c.before.before.before.before.before.before.before in
-    omega (arith, (found b).0, b.boundary.auto.1.1.1.0 ∙ length-take-le _ _ (fits (entry b)), fits (entry b))
+    omega (arith, (found b).0, b.boundary-k.auto.sides ∙ length-take-le _ _ (fits (entry b)), fits (entry b))
 
-returns_3 : tie.Need-returns-3
+returns_3 : tie.Need-returns
 returns_3 c =
-    let w = c.before.before.write-sides in
+    let w = c.write_sides in
     let o = c.before.before.before.before.before in
     let b = o.before.before in
     let a = (entry b).args in
     let n = a.numbers.now in
-    subst (λ m. Answered (comes (entry b)) a.out.now (m * 256) w.new.1.1.0) (count b)
-    (answered_bytes _ _ (length (sides b)) _ (outcome b) _ (omega (arith, sixteen b, count b, o.if1.false))
+    subst (λ m. Answered (comes (entry b)) a.out.now (m * 256) w.new.out) (count b)
+    (answered_bytes _ _ (length (sides b)) _ (outcome b) _ (omega (arith, sixteen b, count b, o.if-out-k.false))
     (w.ensures
     ∙ ap (λ l. flat_map (side_held n) l ++ drop (16 * length l) a.out.now) (sides_front b _)
     ∙ ap (λ m. flat_map (side_held n) (sides b) ++ drop m a.out.now) (sym (sixteen b))))

@@ -25,17 +25,17 @@ returns c =
     let four = c.before.before in
     let three = four.before.before.before.before.before in
     let two = three.before.before.before.before.before in
-    let one = two.before.before.before.before.before in
-    let a = one.before.before.before.before.before.args in
+    let one = two in
+    let a = one.args in
     let p = one.put in
-    let q = two.put2 in
-    let r = three.put3 in
-    let s = four.put4 in
+    let q = two.put-2 in
+    let r = three.put-3 in
+    let s = four.put-4 in
     let l = a.numbers.now in
     let o = a.out.now in
     let e = end_of a.k in
-    let u = corner l o p.new.0 q.new.0 a.k a.at (a.at + 4) (2 * a.k + 1 + 1) refl (omega arith) p.ensures q.ensures in
-    let v = corner l q.new.0 r.new.0 s.new.0 e (a.at + 8) (a.at + 12) (2 * e + 1 + 1) (omega arith) (omega arith) r.ensures s.ensures in
+    let u = corner l o p.new.out q.new.out a.k a.at (a.at + 4) (2 * a.k + 1 + 1) refl (omega arith) p.ensures q.ensures in
+    let v = corner l q.new.out r.new.out s.new.out e (a.at + 8) (a.at + 12) (2 * e + 1 + 1) (omega arith) (omega arith) r.ensures s.ensures in
     v
     ∙ ap (λ m. sets m (a.at + 8) (corner_held l e)) u
     ∙ sets_behind o (corner_held l a.k) (corner_held l e) a.at (a.at + 8) (omega (arith, corner_length l a.k))

@@ -49,43 +49,43 @@ abbrev geometry_below : ℕ → In 2 geometry-kinds.ps
 geometry_below t =
     and 2 geometry-kinds.ps (falls 2 geometry-kinds.ps ◌<◌ μ-geometry t) geometry.Pre
 
-abbrev collection-Inv-loop : collection-lts.invariant-loop
+abbrev collection-Inv-loop : collection-lts.invariant-loop-left
 collection-Inv-loop s n depth numbers₀ c₀ b₀ left₀ numbers c b left =
     Within s c b × (c₀.at ≤ c.at) × (length numbers ≡ length numbers₀) × Trail s c₀ b₀ numbers₀ c b numbers
     × Row left depth c × (counts (behind_all left c) ≡ counts (behind_all n c₀))
 
-abbrev collection-μ-loop : collection-lts.decreases-loop
+abbrev collection-μ-loop : collection-lts.decreases-loop-left
 collection-μ-loop s n depth numbers₀ c₀ b₀ left₀ numbers c b left = left
 
 collection_loop_holds :
     (t : ℕ) →
-    collection-lts.Need-loop-init
+    collection-lts.Need-loop-left-init
     (geometry_below t, geometry.Post)
     (collection_at t)
     collection.Post
     collection-Inv-loop
     collection-μ-loop
-collection_loop_holds t c = (c.before.before.requires.1.0, omega arith, refl, record { leads = λ t out h. (t, h, refl) }, c.before.before.requires.1.1, refl)
+collection_loop_holds t c = (c.requires.1.0, omega arith, refl, record { leads = λ t out h. (t, h, refl) }, c.requires.1.1, refl)
 
-collection_geometry_requires : (t : ℕ) → collection-lts.Need-geometry-requires (
+collection_geometry_requires : (t : ℕ) → collection-lts.Need-geometry-t-requires (
   geometry_below t,
   geometry.Post,
 ) (collection_at t) collection.Post collection-Inv-loop collection-μ-loop
-collection_geometry_requires t c κs = (omega (arith, c.before.before.before.before.before.requires.0), (c.before.before.loop.invariant.0, row_first c.before.before.loop.left _ _ (omega arith) c.before.before.loop.invariant.4))
+collection_geometry_requires t c κs = (omega (arith, c.requires.0), (c.loop-left.invariant.0, row_first c.loop-left.left _ _ (omega arith) c.loop-left.invariant.4))
 
-collection_enum_known_t : (t : ℕ) → collection-lts.Need-enum-known-t (
+collection_enum_known_t : (t : ℕ) → collection-lts.Need-enum_known-t (
   geometry_below t,
   geometry.Post,
 ) (collection_at t) collection.Post collection-Inv-loop collection-μ-loop
 collection_enum_known_t t c = search rules
 
-collection_enum_known_t_2 : (t : ℕ) → collection-lts.Need-enum-known-t-2 (
+collection_enum_known_t_2 : (t : ℕ) → collection-lts.Need-enum_known-t-in-Over-1 (
   geometry_below t,
   geometry.Post,
 ) (collection_at t) collection.Post collection-Inv-loop collection-μ-loop
 collection_enum_known_t_2 t c = search rules
 
-collection_same_length : (t : ℕ) → collection-lts.Need-same-length (
+collection_same_length : (t : ℕ) → collection-lts.Need-shape_of-numbers-in-Over (
   geometry_below t,
   geometry.Post,
 ) (collection_at t) collection.Post collection-Inv-loop collection-μ-loop
@@ -93,19 +93,19 @@ collection_same_length t c = search rules
 
 collection_returns :
     (t : ℕ) →
-    collection-lts.Need-returns
+    collection-lts.Need-returns-in-Over
     (geometry_below t, geometry.Post)
     (collection_at t)
     collection.Post
     collection-Inv-loop
     collection-μ-loop
 collection_returns t c =
-    let w = was_over _ _ _ _ _ _ _ c.before.before.before.before.before.geometry.ensures.0 _ _ _ c.before.t2.given.1 in
-    ((w.0, (follow_over c.before.before.before.before.before.before.before.before.loop.invariant.3 w.1).ends), tt)
+    let w = was_over _ _ _ _ _ _ _ c.geometry-t.ensures.0 _ _ _ c.in-Over.is in
+    ((w.0, (follow_over c.loop-left.invariant.3 w.1).ends), tt)
 
 collection_sub_left :
     (t : ℕ) →
-    collection-lts.Need-overflow-sub-left
+    collection-lts.Need-overflow_sub-left
     (geometry_below t, geometry.Post)
     (collection_at t)
     collection.Post
@@ -115,7 +115,7 @@ collection_sub_left t c = search rules
 
 collection_loop_less :
     (t : ℕ) →
-    collection-lts.Need-loop-smaller
+    collection-lts.Need-loop-left-smaller
     (geometry_below t, geometry.Post)
     (collection_at t)
     collection.Post
@@ -125,35 +125,35 @@ collection_loop_less t c = omega arith
 
 collection_loop_again :
     (t : ℕ) →
-    collection-lts.Need-loop-preserved
+    collection-lts.Need-loop-left-preserved
     (geometry_below t, geometry.Post)
     (collection_at t)
     collection.Post
     collection-Inv-loop
     collection-μ-loop
 collection_loop_again t c =
-    let l = c.before.before.before.before.before.before.before.before.loop in
-    let w = went_on _ _ _ _ _ _ _ c.before.before.before.before.before.geometry.ensures.0 _ _ c.before.t.given.1 in
-    let n = row_next l.left _ _ _ (omega arith) l.invariant.4 (subst (Past _) c.before.t.given.1 c.before.before.before.before.before.geometry.ensures.1) in
+    let l = c.loop-left in
+    let w = went_on _ _ _ _ _ _ _ c.geometry-t.ensures.0 _ _ c.in-On.is in
+    let n = row_next l.left _ _ _ (omega arith) l.invariant.4 (subst (Past _) c.in-On.is c.geometry-t.ensures.1) in
     (w.0, omega (arith, w.1, l.invariant.1), search rules, follow l.invariant.3 w.2, n.0, n.1 ∙ l.invariant.5)
 
-collection_same_length_2 : (t : ℕ) → collection-lts.Need-same-length-2 (
+collection_same_length_2 : (t : ℕ) → collection-lts.Need-shape_of-numbers (
   geometry_below t,
   geometry.Post,
 ) (collection_at t) collection.Post collection-Inv-loop collection-μ-loop
-collection_same_length_2 t c = c.before.loop.invariant.2
+collection_same_length_2 t c = c.loop-left.invariant.2
 
 collection_returns_2 :
     (t : ℕ) →
-    collection-lts.Need-returns-2
+    collection-lts.Need-returns
     (geometry_below t, geometry.Post)
     (collection_at t)
     collection.Post
     collection-Inv-loop
     collection-μ-loop
-collection_returns_2 t c = (((c.before.loop.invariant.0, c.before.loop.invariant.1), c.before.loop.invariant.3.leads), row_done c.before.loop.left _ _ (omega arith) c.before.loop.invariant.5)
+collection_returns_2 t c = (((c.loop-left.invariant.0, c.loop-left.invariant.1), c.loop-left.invariant.3.leads), row_done c.loop-left.left _ _ (omega arith) c.loop-left.invariant.5)
 
-geometry_step_requires : (t : ℕ) → geometry-lts.Need-step-requires (
+geometry_step_requires : (t : ℕ) → geometry-lts.Need-step-told-requires (
   step-reads.Asked,
   step-reads.Learnt,
   taken-reads.Asked,
@@ -165,7 +165,7 @@ geometry_step_requires : (t : ℕ) → geometry-lts.Need-step-requires (
 ) (geometry_at t) geometry.Post
 geometry_step_requires t c κs = tt
 
-geometry_taken_requires : (t : ℕ) → geometry-lts.Need-taken-requires (
+geometry_taken_requires : (t : ℕ) → geometry-lts.Need-taken-t-requires (
   step-reads.Asked,
   step-reads.Learnt,
   taken-reads.Asked,
@@ -175,9 +175,9 @@ geometry_taken_requires : (t : ℕ) → geometry-lts.Need-taken-requires (
   collection_below t,
   collection.Post,
 ) (geometry_at t) geometry.Post
-geometry_taken_requires t c κs = subst (Ready _ _) (sym (ap answer c.before.step.ensures)) (ready _ _ _ (omega arith) c.before.before.before.before.requires.1.0)
+geometry_taken_requires t c κs = subst (Ready c.args.c c.args.b) (sym (ap answer c.step-told.ensures)) (ready _ _ _ (omega arith) c.requires.1.0)
 
-geometry_enum_known_t : (t : ℕ) → geometry-lts.Need-enum-known-t (
+geometry_enum_known_t : (t : ℕ) → geometry-lts.Need-enum_known-t (
   step-reads.Asked,
   step-reads.Learnt,
   taken-reads.Asked,
@@ -189,7 +189,7 @@ geometry_enum_known_t : (t : ℕ) → geometry-lts.Need-enum-known-t (
 ) (geometry_at t) geometry.Post
 geometry_enum_known_t t c = search rules
 
-geometry_enum_told : (t : ℕ) → geometry-lts.Need-enum-told (
+geometry_enum_told : (t : ℕ) → geometry-lts.Need-enum_told-1 (
   step-reads.Asked,
   step-reads.Learnt,
   taken-reads.Asked,
@@ -201,7 +201,7 @@ geometry_enum_told : (t : ℕ) → geometry-lts.Need-enum-told (
 ) (geometry_at t) geometry.Post
 geometry_enum_told t c = search rules
 
-geometry_same_length : (t : ℕ) → geometry-lts.Need-same-length (
+geometry_same_length : (t : ℕ) → geometry-lts.Need-shape_of-numbers-in_default (
   step-reads.Asked,
   step-reads.Learnt,
   taken-reads.Asked,
@@ -213,7 +213,7 @@ geometry_same_length : (t : ℕ) → geometry-lts.Need-same-length (
 ) (geometry_at t) geometry.Post
 geometry_same_length t c = search rules
 
-geometry_returns : (t : ℕ) → geometry-lts.Need-returns (
+geometry_returns : (t : ℕ) → geometry-lts.Need-returns-in_default (
   step-reads.Asked,
   step-reads.Learnt,
   taken-reads.Asked,
@@ -224,10 +224,10 @@ geometry_returns : (t : ℕ) → geometry-lts.Need-returns (
   collection.Post,
 ) (geometry_at t) geometry.Post
 geometry_returns t c =
-    let p = c.before.before.before.before.before.before.before.before.before.requires.1 in
-    (any_turn _ _ _ _ _ _ _ (ap answer c.before.before.before.before.before.before.step.ensures) c.before.before.before.before.taken.ensures p.0 (stands_goes _ _ _ p.1), subst (Past _) (sym c.enum_told.given.1) tt)
+    let p = c.requires.1 in
+    (any_turn _ _ _ _ _ _ _ (ap answer c.step-told.ensures) c.taken-t.ensures p.0 (stands_goes _ _ _ p.1), subst (Past _) (sym c.in_default.is) tt)
 
-geometry_enum_known_a : (t : ℕ) → geometry-lts.Need-enum-known-a (
+geometry_enum_known_a : (t : ℕ) → geometry-lts.Need-enum_known-a (
   step-reads.Asked,
   step-reads.Learnt,
   taken-reads.Asked,
@@ -239,7 +239,7 @@ geometry_enum_known_a : (t : ℕ) → geometry-lts.Need-enum-known-a (
 ) (geometry_at t) geometry.Post
 geometry_enum_known_a t c = search rules
 
-geometry_same_length_2 : (t : ℕ) → geometry-lts.Need-same-length-2 (
+geometry_same_length_2 : (t : ℕ) → geometry-lts.Need-shape_of-numbers-in_default-a (
   step-reads.Asked,
   step-reads.Learnt,
   taken-reads.Asked,
@@ -251,7 +251,7 @@ geometry_same_length_2 : (t : ℕ) → geometry-lts.Need-same-length-2 (
 ) (geometry_at t) geometry.Post
 geometry_same_length_2 t c = search rules
 
-geometry_returns_2 : (t : ℕ) → geometry-lts.Need-returns-2 (
+geometry_returns_2 : (t : ℕ) → geometry-lts.Need-returns-in_default-a (
   step-reads.Asked,
   step-reads.Learnt,
   taken-reads.Asked,
@@ -261,10 +261,10 @@ geometry_returns_2 : (t : ℕ) → geometry-lts.Need-returns-2 (
   collection_below t,
   collection.Post,
 ) (geometry_at t) geometry.Post
-geometry_returns_2 t c = absurd (goes_nowhere _ _ _ _ _ _ (ap answer c.before.before.before.before.before.before.before.before.step.ensures) c.before.before.before.before.before.before.taken.ensures.0 c.before.before.before.before.before.before.before.before.before.before.before.requires.1.1 _ _ c.before.before.t.given.1 c.match2.keys2)
+geometry_returns_2 t c = absurd (goes_nowhere _ _ _ _ _ _ (ap answer c.step-told.ensures) c.taken-t.ensures.0 c.requires.1.1 _ _ c.in-On.is c.in_default-a.not-Geometry)
 
 -- After a geometry's header: reading goes on at the place behind it, which holds what the header says.
-module _ (t : ℕ) (d : geometry-lts.After-known-told2 (
+module _ (t : ℕ) (d : geometry-lts.In-Geometry (
   step-reads.Asked,
   step-reads.Learnt,
   taken-reads.Asked,
@@ -275,30 +275,30 @@ module _ (t : ℕ) (d : geometry-lts.After-known-told2 (
   collection.Post,
 ) (geometry_at t) geometry.Post) where
   abbrev S : List ℕ
-  S = d.before.before.before.before.before.before.before.before.before.before.before.before.before.args.s.now
+  S = d.args.s.now
 
   abbrev C : Cursor
-  C = d.before.before.before.before.before.before.before.before.before.before.before.before.before.args.c
+  C = d.args.c
 
   abbrev B : Build
-  B = d.before.before.before.before.before.before.before.before.before.before.before.before.before.args.b
+  B = d.args.b
 
   abbrev D : Cursor
-  D = d.before.before.before.before.t.given.0.0
+  D = d.in-On.next
 
   abbrev E : Build
-  E = d.before.before.before.before.t.given.0.1.0
+  E = d.in-On.more
 
   went : Within S D E × (C.at + 4 ≤ D.at)
-      × Trail S C B d.before.before.before.before.before.before.before.before.before.before.before.before.before.args.numbers.now D E d.before.before.before.before.before.before.before.before.taken.last.1.1.1.0
+      × Trail S C B d.args.numbers.now D E d.taken-t.new.numbers
   went =
-      goes_on _ _ _ _ _ _ _ (ap answer d.before.before.before.before.before.before.before.before.before.before.step.ensures) d.before.before.before.before.before.before.before.before.taken.ensures _ _ d.before.before.before.before.t.given.1
-      d.before.before.before.before.before.before.before.before.before.before.before.before.before.pre.1.0
+      goes_on _ _ _ _ _ _ _ (ap answer d.step-told.ensures) d.taken-t.ensures _ _ d.in-On.is
+      d.requires.1.0
 
-  holds : Holds d.before.before.before.before.before.before.before.before.before.before.before.before.before.args.depth C d.before.a.given.0.1.0 D
+  holds : Holds d.args.depth C d.in-Geometry.n D
   holds =
-      goes_held _ _ _ _ _ _ (ap answer d.before.before.before.before.before.before.before.before.before.before.step.ensures) d.before.before.before.before.before.before.before.before.taken.ensures.0
-      d.before.before.before.before.before.before.before.before.before.before.before.before.before.pre.1.1 _ _ d.before.before.before.before.t.given.1 _ _ _ d.before.a.given.1
+      goes_held _ _ _ _ _ _ (ap answer d.step-told.ensures) d.taken-t.ensures.0
+      d.requires.1.1 _ _ d.in-On.is _ _ _ d.in-Geometry.is
 
 geometry_rings_requires : (t : ℕ) → geometry-lts.Need-rings-requires (
   step-reads.Asked,
@@ -310,9 +310,9 @@ geometry_rings_requires : (t : ℕ) → geometry-lts.Need-rings-requires (
   collection_below t,
   collection.Post,
 ) (geometry_at t) geometry.Post
-geometry_rings_requires t c κs = ((went t c.before.before.before).0, c.before.if1.true)
+geometry_rings_requires t c κs = ((went t c.before.before.before).0, c.if-next-gt0.true)
 
-geometry_same_length_3 : (t : ℕ) → geometry-lts.Need-same-length-3 (
+geometry_same_length_3 : (t : ℕ) → geometry-lts.Need-shape_of-numbers-then-next-gt0 (
   step-reads.Asked,
   step-reads.Learnt,
   taken-reads.Asked,
@@ -324,7 +324,7 @@ geometry_same_length_3 : (t : ℕ) → geometry-lts.Need-same-length-3 (
 ) (geometry_at t) geometry.Post
 geometry_same_length_3 t c = search rules
 
-geometry_returns_3 : (t : ℕ) → geometry-lts.Need-returns-3 (
+geometry_returns_3 : (t : ℕ) → geometry-lts.Need-returns-then-next-gt0 (
   step-reads.Asked,
   step-reads.Learnt,
   taken-reads.Asked,
@@ -336,10 +336,10 @@ geometry_returns_3 : (t : ℕ) → geometry-lts.Need-returns-3 (
 ) (geometry_at t) geometry.Post
 geometry_returns_3 t c =
     let d = c.before.before.before.before.before.before in
-    let r = c.before.before.rings in
-    (after _ _ _ r.result _ r.new.1.1.1.0 _ r.ensures.0 _ _ _ (went t d).1 (went t d).2, past_polygon (holds t d) c.before.before.before.before.if1.true r.result r.ensures.1)
+    let r = c.rings in
+    (after _ _ _ r.result _ r.new.numbers _ r.ensures.0 _ _ _ (went t d).1 (went t d).2, past_polygon (holds t d) c.if-next-gt0.true r.result r.ensures.1)
 
-geometry_sub_collection : (t : ℕ) → geometry-lts.Need-overflow-sub-collection (
+geometry_sub_collection : (t : ℕ) → geometry-lts.Need-overflow_sub-depth (
   step-reads.Asked,
   step-reads.Learnt,
   taken-reads.Asked,
@@ -363,11 +363,11 @@ geometry_collection_requires : (t : ℕ) → geometry-lts.Need-collection-requir
 ) (geometry_at t) geometry.Post
 geometry_collection_requires t c κs =
     let d = c.before.before.before in
-    let l = c.before.if1.false in
+    let l = c.if-next-gt0.false in
     let z : (D t d).rings ≡ 0 = omega arith in
-    (let m = (holds t d).deeper z in omega (arith, c.before.before.before.before.before.before.before.before.before.before.before.before.before.before.before.before.requires.0), ((went t d).0, (holds t d).stand z))
+    (let m = (holds t d).deeper z in omega (arith, c.requires.0), ((went t d).0, (holds t d).stand z))
 
-geometry_same_length_4 : (t : ℕ) → geometry-lts.Need-same-length-4 (
+geometry_same_length_4 : (t : ℕ) → geometry-lts.Need-shape_of-numbers (
   step-reads.Asked,
   step-reads.Learnt,
   taken-reads.Asked,
@@ -379,7 +379,7 @@ geometry_same_length_4 : (t : ℕ) → geometry-lts.Need-same-length-4 (
 ) (geometry_at t) geometry.Post
 geometry_same_length_4 t c = search rules
 
-geometry_returns_4 : (t : ℕ) → geometry-lts.Need-returns-4 (
+geometry_returns_4 : (t : ℕ) → geometry-lts.Need-returns (
   step-reads.Asked,
   step-reads.Learnt,
   taken-reads.Asked,
@@ -391,10 +391,10 @@ geometry_returns_4 : (t : ℕ) → geometry-lts.Need-returns-4 (
 ) (geometry_at t) geometry.Post
 geometry_returns_4 t c =
     let d = c.before.before.before.before.before.before in
-    let r = c.before.before.collection in
-    let l = c.before.before.before.before.if1.false in
+    let r = c.collection in
+    let l = c.if-next-gt0.false in
     let z : (D t d).rings ≡ 0 = omega arith in
-    (after _ _ _ r.result _ r.new.1.1.1.1.1.0 _ r.ensures.0 _ _ _ (went t d).1 (went t d).2, past_row (holds t d) z r.result r.ensures.1)
+    (after _ _ _ r.result _ r.new.numbers _ r.ensures.0 _ _ _ (went t d).1 (went t d).2, past_row (holds t d) z r.result r.ensures.1)
 
 pub +collection_geometry_spec : {M : Type 1} → statement M
 +collection_geometry_spec = close μ-collection μ-geometry (λ t. collection-lts.spec (

@@ -8,12 +8,12 @@ use Rattle.sheet.proofs.begin.Tie as tie
 push_requires : tie.Need-push-requires
 push_requires c κs = search rules
 
-same_length : tie.Need-same-length
+same_length : tie.Need-shape_of-numbers
 same_length c = search rules
 
 returns : tie.Need-returns
 returns c =
-    let p = c.before.before.push.ensures in (
+    let p = c.push.ensures in (
       p.0,
       λ t out h. p.1 (marked (length t.numbers) t) out
           (record { fill = h.fill; laid_over = h.laid_over; mark = h.fill; first = h.first; x = h.x; y = h.y }),

@@ -6,7 +6,7 @@ use mathlib.Core.List.{List}
 use Prim.Native.Nat.{ℕ, ◌+◌, ◌≤◌}
 use native.Mathlib.Omega.{arith}
 use borrow.Author.Rules.{rules}
-use borrow.Author.Tests.{leb-true, not-false}
+use borrow.Author.Tests.{leb-true}
 use lib.Ieee.{Float}
 use lib.ListN.{length}
 use Rattle.lent_little.specs.Ordered.{remains}
@@ -24,7 +24,7 @@ use Rattle.sheet.proofs.point.Statement.{statement}
 use Rattle.sheet.proofs.point.Tie as tie
 
 -- ---- what the passed tests say
-module _ (d : tie.Else1) where
+module _ (d : tie.Else-not-remain) where
   abbrev start : tie.Start
   start = d.before.before.before.before
 
@@ -35,52 +35,52 @@ module _ (d : tie.Else1) where
   C = start.args.c
 
   pub remained : remains S C.at 16 ≡ true
-  remained = sym d.before.remain.ensures ∙ not-false _ d.if1.left
+  remained = sym d.remain.ensures ∙ d.if-not-remain.false
 
   pub fits : C.at + 16 ≤ length S
   fits = leb-true (C.at + 16) (length S) remained
 
-x_whole : (d : tie.After-x) → coordinate_of d.before.before.before.double.result ≡ Whole d.x.given.0.0
-x_whole d = sym d.before.before.judge.ensures ∙ d.x.given.1
+x_whole : (d : tie.In-Whole) → coordinate_of d.double.result ≡ Whole d.in-Whole.x
+x_whole d = sym d.judge.ensures ∙ d.in-Whole.is
 
-y_whole : (d : tie.After-y) → coordinate_of d.before.before.before.double2.result ≡ Whole d.y.given.0.0
-y_whole d = sym d.before.before.judge2.ensures ∙ d.y.given.1
+y_whole : (d : tie.In-Whole-judge) → coordinate_of d.double-2.result ≡ Whole d.in-Whole-judge.y
+y_whole d = sym d.judge-2.ensures ∙ d.in-Whole-judge.is
 
-module _ (d : tie.Else2) where
-  abbrev Y : tie.After-y
-  Y = d.before.before.before
+module _ (d : tie.Else-differs) where
+  abbrev Y : tie.In-Whole-judge
+  Y = d.before.before
 
-  abbrev X : tie.After-x
-  X = Y.before.before.before.before.before.before
+  abbrev X : tie.In-Whole
+  X = Y.before.before.before.before
 
-  abbrev E : tie.Else1
-  E = X.before.before.before.before
+  abbrev E : tie.Else-not-remain
+  E = X.before.before.before
 
   abbrev x : Float
-  x = X.before.before.before.double.result
+  x = d.double.result
 
   abbrev y : Float
-  y = Y.before.before.before.double2.result
+  y = d.double-2.result
 
   pub step : Point x y (after_point (C E)) ≡ step_at (S E) (C E)
-  step = point_step (S E) (C E) x y (start E).pre.1 (remained E) X.before.before.before.double.ensures Y.before.before.before.double2.ensures
+  step = point_step (S E) (C E) x y (start E).requires.1 (remained E) d.double.ensures d.double-2.ensures
 
   pub can : Ready (C E) (start E).args.b (Point x y (after_point (C E)))
-  can = subst (Ready (C E) (start E).args.b) (sym step) (ready (S E) (C E) (start E).args.b (omega arith) (start E).pre.0)
+  can = subst (Ready (C E) (start E).args.b) (sym step) (ready (S E) (C E) (start E).args.b (omega arith) (start E).requires.0)
 
 -- Nothing is reached where a test fails.
 none : (s : tie.Start) → Reaches s.args.s.now s.args.c s.args.b s.args.numbers.now (at s.args.c s.args.b) s.args.numbers.now
 none s = reach_none s.args.s.now s.args.c s.args.b s.args.numbers.now s.requires.0 (omega (arith, s.requires.1))
 
-returns_5 : tie.Need-returns-5
+returns_5 : tie.Need-returns
 unfolding judged taken
 returns_5 c =
     let d = c.before.before.before.before.before in
     let s = start (E d) in
-    let p = c.before.before.before.before.after-point.ensures in
-    let b = c.before.before.pointing.ensures in
-    reach_step (S (E d)) (C (E d)) s.args.b s.args.numbers.now s.pre.0 (omega (arith, s.pre.1)) (Point (x d) (y d) (after_point (C (E d)))) _ _ _ (step d)
-    ((p, b.0), λ t out k. rw (x_whole (X d), y_whole (Y d), sym (d.before.differs.ensures t out _ k) ∙ d.if2.false) (p, b.1 t out k))
+    let p = c.after_point.ensures in
+    let b = c.pointing.ensures in
+    reach_step (S (E d)) (C (E d)) s.args.b s.args.numbers.now s.requires.0 (omega (arith, s.requires.1)) (Point (x d) (y d) (after_point (C (E d)))) _ _ _ (step d)
+    ((p, b.0), λ t out k. rw (x_whole (X d), y_whole (Y d), sym (d.differs.ensures t out _ k) ∙ d.if-differs.false) (p, b.1 t out k))
 
 pub point_spec : {M : Type 1} → statement M
 point_spec =
@@ -92,15 +92,15 @@ point_spec =
     (λ c κs. search rules)
     (λ c. search rules)
     (λ c. search rules)
-    (λ c. none (start c.before.before.before.before))
-    (λ c. let f = fits c.before.before.before.before.before.before in omega arith)
-    (λ c κs. let f = fits c.before.before.before.before.before.before in omega arith)
+    (λ c. none (start c.before.before.before))
+    (λ c. let f = fits c.before.before.before.before in omega arith)
+    (λ c κs. let f = fits c.before.before.before.before in omega arith)
     (λ c κs. search rules)
     (λ c. search rules)
     (λ c. search rules)
-    (λ c. none (start c.before.before.before.before.before.before.before.before.before.before))
+    (λ c. none (start c.before.before.before.before.before.before.before))
     (λ c κs. search rules)
-    (λ c. none (start c.before.before.before.before.before.before.before.before.before.before.before.before.before))
+    (λ c. none (start c.before.before.before.before.before.before.before.before.before))
     (λ c κs. let f = fits (E c) in omega arith)
     (λ c κs. let r = can c.before.before in (r.0, r.2))
     (λ c. search rules)

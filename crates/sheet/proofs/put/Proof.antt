@@ -6,19 +6,19 @@ use Rattle.sheet.proofs.put.Statement.{statement}
 use Rattle.sheet.proofs.put.Tie as tie
 use lib.Seq.{set_out}
 
-mul_numbers : tie.Need-overflow-mul-numbers
+mul_numbers : tie.Need-offset_bounds-numbers-at
 mul_numbers c = search rules
 
-slice_write_numbers : tie.Need-slice-write-numbers
+slice_write_numbers : tie.Need-bounds-numbers-at
 slice_write_numbers c = search rules
 
-same_length : tie.Need-same-length
+same_length : tie.Need-shape_of-numbers
 same_length c = search rules
 
-returns : tie.Need-returns
+returns : tie.Need-returns-then-at-numbers
 returns c = search rules
 
-returns_2 : tie.Need-returns-2
+returns_2 : tie.Need-returns-else-at-numbers
 returns_2 c = sym (set_out _ _ _ (omega arith))
 
 pub put_spec : {M : Type 1} → statement M

@@ -10,34 +10,34 @@ use borrow.Author.Rules.{rules}
 use Rattle.sheet.proofs.taken.Statement.{statement}
 use Rattle.sheet.proofs.taken.Tie as tie
 
-enum_known_a : tie.Need-enum-known-a
+enum_known_a : tie.Need-enum_known-a
 enum_known_a c = search rules
 
 standing_requires : tie.Need-standing-requires
 standing_requires c κs = search rules
 
 opening_requires : tie.Need-opening-requires
-opening_requires c κs = subst (Ready _ _) c.before.before.before.a.given.1 c.before.before.before.before.before.before.requires
+opening_requires c κs = subst (Ready c.args.c c.args.b) c.in-Geometry.is c.requires
 
-enum_known_a_2 : tie.Need-enum-known-a-2
+enum_known_a_2 : tie.Need-enum_known-a-in-Ring-1
 enum_known_a_2 c = search rules
 
 ringing_requires : tie.Need-ringing-requires
-ringing_requires c κs = subst (Ready _ _) c.before.before.a2.given.1 c.before.before.before.before.before.requires
+ringing_requires c κs = subst (Ready c.args.c c.args.b) c.in-Ring.is c.requires
 
-enum_known_a_3 : tie.Need-enum-known-a-3
+enum_known_a_3 : tie.Need-enum_known-a-in-Point-1
 enum_known_a_3 c = search rules
 
 judged_requires : tie.Need-judged-requires
-judged_requires c κs = subst (Ready _ _) c.before.before.a3.given.1 c.before.before.before.before.before.requires
+judged_requires c κs = subst (Ready c.args.c c.args.b) c.in-Point.is c.requires
 
-enum_told : tie.Need-enum-told
+enum_told : tie.Need-enum_told-1
 enum_told c = search rules
 
-enum_known_a_4 : tie.Need-enum-known-a-4
+enum_known_a_4 : tie.Need-enum_known-a-in-Refused-1
 enum_known_a_4 c = search rules
 
-same_length : tie.Need-same-length
+same_length : tie.Need-shape_of-numbers-in-Geometry
 same_length c = search rules
 
 -- the geometry that stands there
@@ -45,31 +45,31 @@ stood : (c : Cursor) (r : Slot) → r ≡ slot_at c.member c.parts → r ≡ slo
 unfolding slot_of
 stood c r e = e
 
-returns : tie.Need-returns
+returns : tie.Need-returns-in-Geometry
 unfolding taken
-returns c = rw c.before.before.before.before.before.before.a.given.1 ((refl, c.before.before.opening.ensures.0), λ t out h. (refl, rw (← (stood c.before.before.before.before.before.before.before.before.before.args.c _ c.before.before.before.before.standing.ensures)) (c.before.before.opening.ensures.1 t out h)))
+returns c = rw c.in-Geometry.is ((refl, c.opening.ensures.0), λ t out h. (refl, rw (← (stood c.args.c _ c.standing.ensures)) (c.opening.ensures.1 t out h)))
 
-same_length_2 : tie.Need-same-length-2
+same_length_2 : tie.Need-shape_of-numbers-in-Ring
 same_length_2 c = search rules
 
-returns_2 : tie.Need-returns-2
+returns_2 : tie.Need-returns-in-Ring
 unfolding taken
-returns_2 c = rw c.before.before.before.before.before.a2.given.1 ((refl, c.before.before.ringing.ensures.0), λ t out h. (refl, c.before.before.ringing.ensures.1 t out h))
+returns_2 c = rw c.in-Ring.is ((refl, c.ringing.ensures.0), λ t out h. (refl, c.ringing.ensures.1 t out h))
 
-same_length_3 : tie.Need-same-length-3
+same_length_3 : tie.Need-shape_of-numbers-in-Point
 same_length_3 c = search rules
 
-returns_3 : tie.Need-returns-3
+returns_3 : tie.Need-returns-in-Point
 unfolding taken
-returns_3 c = rw c.before.before.before.before.before.a3.given.1 c.before.before.judged.ensures
+returns_3 c = rw c.in-Point.is c.judged.ensures
 
-returns_4 : tie.Need-returns-4
+returns_4 : tie.Need-returns-in-End
 unfolding taken
-returns_4 c = rw c.enum_told.given.1 (tt, λ t out h. (refl, refl, refl, h.laid_over))
+returns_4 c = rw c.in-End.is (tt, λ t out h. (refl, refl, refl, h.laid_over))
 
-returns_5 : tie.Need-returns-5
+returns_5 : tie.Need-returns-in-Refused
 unfolding taken
-returns_5 c = rw c.before.a4.given.1 (refl, λ t out h. (refl, refl, refl, h.laid_over))
+returns_5 c = rw c.in-Refused.is (refl, λ t out h. (refl, refl, refl, h.laid_over))
 
 pub taken_spec : {M : Type 1} → statement M
 taken_spec =

@@ -18,18 +18,18 @@ use Rattle.sheet_areas.proofs.Sheets.{Laying, table_count, laying_begin, laying_
 use Rattle.sheet_areas.proofs.areas.Statement.{statement}
 use Rattle.sheet_areas.proofs.areas.Tie as tie
 
-abbrev invariant_loop : tie.invariant_loop
+abbrev invariant_loop : tie.invariant-loop-k
 invariant_loop numbers areas₀ here₀ k₀ areas here k =
     (length areas ≡ length areas₀) × ((limit : ℕ) (n : Sheet) (size : ℕ) → SheetHeld limit n (take size numbers) → RingsFit n → length n.polygons ≡ length areas₀ → Laying n size numbers areas here k)
 
-abbrev decreases_loop : tie.decreases_loop
+abbrev decreases_loop : tie.decreases-loop-k
 decreases_loop numbers areas₀ here₀ k₀ areas here k = length areas₀ - k
 
 -- ---- places: the loop, and the entry of the function
-abbrev start : tie.At-loop invariant_loop decreases_loop → tie.Start invariant_loop decreases_loop
+abbrev start : tie.At-loop-k invariant_loop decreases_loop → tie.Start invariant_loop decreases_loop
 start c = c.before.before.before.before
 
-abbrev loop : tie.After-bits invariant_loop decreases_loop → tie.At-loop invariant_loop decreases_loop
+abbrev loop : tie.After-bits invariant_loop decreases_loop → tie.At-loop-k invariant_loop decreases_loop
 loop c = c.before.before.before.before
 
 -- ---- what stands there
@@ -37,24 +37,24 @@ loop c = c.before.before.before.before
 count : (c : tie.Start invariant_loop decreases_loop) → let numbers = c.args.numbers.now in (0 < length numbers) × (get_or numbers 0 0 ≡ length c.requires.1.table + 10_000_000) × (length c.requires.1.table ≤ 1024)
 count c = let p = c.requires in let t = table_count p.2 c.args.numbers.now p.3 in (t.0, t.1, p.3.few)
 
-loop_holds : tie.Need-loop-init invariant_loop decreases_loop
-loop_holds c = (refl, λ limit n size h fits many. laying_begin size c.before.before.before.args.numbers.now h c.before.before.before.args.areas.now fits many)
+loop_holds : tie.Need-loop-k-init invariant_loop decreases_loop
+loop_holds c = (refl, λ limit n size h fits many. laying_begin size c.args.numbers.now h c.args.areas.now fits many)
 
 -- The next polygon stands here.
-place : (c : tie.In-loop invariant_loop decreases_loop) → Place member_numbers member_edges (All (All RingLimits)) (start c.before).args.numbers.now c.before.loop.here
-place c = let p = (start c.before).pre in laying_place (c.before.loop.invariant.1 p.0 p.1 p.2 p.3 p.4 p.5) p.3.held (omega arith)
+place : (c : tie.In-loop-k invariant_loop decreases_loop) → Place member_numbers member_edges (All (All RingLimits)) (start c.before).args.numbers.now c.loop-k.here
+place c = let p = (start c.before).requires in laying_place (c.loop-k.invariant.1 p.0 p.1 p.2 p.3 p.4 p.5) p.3.held (omega arith)
 
-loop_again : tie.Need-loop-preserved invariant_loop decreases_loop
+loop_again : tie.Need-loop-k-preserved invariant_loop decreases_loop
 loop_again c =
-    let l = (loop c).loop in
-    let r = c.before.before.polygon.ensures in
+    let l = (loop c).loop-k in
+    let r = c.polygon-one.ensures in
     let e = c.bits.ensures ∙ ap (of_z w64) (one_fits (place c.before.before.before) r) in (
-      length-set l.areas l.k c.bits.result ∙ l.inv.0,
-      λ limit n size h fits many. rw e (laying_more (l.inv.1 limit n size h fits many) h.held (omega arith) r),
+      length-set l.areas l.k c.bits.result ∙ l.invariant.0,
+      λ limit n size h fits many. rw e (laying_more (l.invariant.1 limit n size h fits many) h.held (omega arith) r),
     )
 
 returns : tie.Need-returns invariant_loop decreases_loop
-returns c = λ limit n size h fits many. laying_done (c.before.loop.invariant.1 limit n size h fits many) (omega arith)
+returns c = λ limit n size h fits many. laying_done (c.loop-k.invariant.1 limit n size h fits many) (omega arith)
 
 pub areas_spec : {M : Type 1} → statement M
 areas_spec =
@@ -75,5 +75,5 @@ areas_spec =
     (λ c. omega arith)
     (λ c. omega arith)
     loop_again
-    (λ c. c.before.loop.invariant.0)
+    (λ c. c.loop-k.invariant.0)
     returns)

@@ -27,34 +27,34 @@ size (pos n) h = omega (arith, h.sfits)
 size (negsuc n) h = omega (arith, h.sfits)
 
 -- ---- what stands there
-module _ (c : tie.Then1) where
-  same : to_z w64 (of_z w64 c.before.args.z) ≡ c.before.args.z
-  same = to_z-of_z {w = w64} c.before.ranges.z
+module _ (c : tie.Then-z-lt0) where
+  same : to_z w64 (of_z w64 c.args.z) ≡ c.args.z
+  same = to_z-of_z {w = w64} c.ranges.z
 
-  far : (n : ℕ) × (c.before.args.z ≡ negsuc n) × (negsuc 0 -ℤ c.before.args.z ≡ pos n)
-  far = below c.before.args.z (ap (λ z. lt_z z (pos 0)) (sym same) ∙ c.if1.true)
+  far : (n : ℕ) × (c.args.z ≡ negsuc n) × (negsuc 0 -ℤ c.args.z ≡ pos n)
+  far = below c.args.z (ap (λ z. lt_z z (pos 0)) (sym same) ∙ c.if-z-lt0.true)
 
-  few : SFits w64 (negsuc 0 -ℤ c.before.args.z)
-  few = rw far.2 (record { sfits = omega (arith, rw far.1 at c.before.ranges.z) })
+  few : SFits w64 (negsuc 0 -ℤ c.args.z)
+  few = rw far.2 (record { sfits = omega (arith, rw far.1 at c.ranges.z) })
 
-  told : to_z w64 (of_z w64 (negsuc 0 -ℤ to_z w64 (of_z w64 c.before.args.z))) ≡ pos far.0
+  told : to_z w64 (of_z w64 (negsuc 0 -ℤ to_z w64 (of_z w64 c.args.z))) ≡ pos far.0
   told = ap (λ z. to_z w64 (of_z w64 (negsuc 0 -ℤ z))) same ∙ to_z-of_z {w = w64} few ∙ far.2
 
   short : far.0 < 2 ^ 63
-  short = let h = rw far.1 at c.before.ranges.z in omega (arith, h.sfits)
+  short = let h = rw far.1 at c.ranges.z in omega (arith, h.sfits)
 
-returns : tie.Need-returns
+returns : tie.Need-returns-then-z-lt0
 returns c =
     let n = (far c).0 in
     let e : 18_446_744_073_709_551_615 - n ≡ of_z w64 (negsuc n) = omega arith in
     ap (λ z. 18_446_744_073_709_551_615 - nat_abs z) (told c) ∙ e ∙ ap (of_z w64) (sym (far c).1)
 
-module _ (c : tie.Else1) where
-  same_2 : to_z w64 (of_z w64 c.before.args.z) ≡ c.before.args.z
-  same_2 = to_z-of_z {w = w64} c.before.ranges.z
+module _ (c : tie.Else-z-lt0) where
+  same_2 : to_z w64 (of_z w64 c.args.z) ≡ c.args.z
+  same_2 = to_z-of_z {w = w64} c.ranges.z
 
-  itself : T (non_neg c.before.args.z) × (pos (nat_abs c.before.args.z) ≡ c.before.args.z)
-  itself = above c.before.args.z (ap (λ z. lt_z z (pos 0)) (sym same_2) ∙ c.if1.false)
+  itself : T (non_neg c.args.z) × (pos (nat_abs c.args.z) ≡ c.args.z)
+  itself = above c.args.z (ap (λ z. lt_z z (pos 0)) (sym same_2) ∙ c.if-z-lt0.false)
 
 pub bits_spec : {M : Type 1} → statement M
 bits_spec =
@@ -64,5 +64,5 @@ bits_spec =
     (λ c. rw (told c) (tt, omega (arith, short c)))
     (λ c. rw (told c) (omega (arith, short c)))
     returns
-    (λ c. rw (same_2 c) ((itself c).0, omega (arith, size c.before.args.z c.before.ranges.z)))
+    (λ c. rw (same_2 c) ((itself c).0, omega (arith, size c.args.z c.ranges.z)))
     (λ c. rw (same_2 c) (ap (of_z w64) (itself c).1)))

@@ -17,17 +17,17 @@ use Rattle.sheet_areas.proofs.Walk.{Going, going_begin, place_count, one_fits, g
 use Rattle.sheet_areas.proofs.polygon.Statement.{statement}
 use Rattle.sheet_areas.proofs.polygon.Tie as tie
 
-abbrev invariant_loop : tie.invariant_loop
+abbrev invariant_loop : tie.invariant-loop-left
 invariant_loop numbers at here₀ total₀ left₀ here total left = Going part_numbers (flat_map edges) (All RingLimits) numbers at here left (to_z w64 total)
 
-abbrev decreases_loop : tie.decreases_loop
+abbrev decreases_loop : tie.decreases-loop-left
 decreases_loop numbers at here₀ total₀ left₀ here total left = left
 
 -- ---- places: the loop, and the entry of the function
-abbrev loop : tie.After-struct-told invariant_loop decreases_loop → tie.At-loop invariant_loop decreases_loop
+abbrev loop : tie.After-struct_told-1 invariant_loop decreases_loop → tie.At-loop-left invariant_loop decreases_loop
 loop c = c.before.before.before.before
 
-abbrev start : tie.At-loop invariant_loop decreases_loop → tie.Start invariant_loop decreases_loop
+abbrev start : tie.At-loop-left invariant_loop decreases_loop → tie.Start invariant_loop decreases_loop
 start c = c.before.before.before
 
 -- ---- what stands there
@@ -36,15 +36,15 @@ count : (c : tie.Start invariant_loop decreases_loop) → let a = c.args in (a.a
 count c = place_count part_numbers c.requires
 
 -- One part more is summed up, and the sum fits.
-more : (c : tie.After-struct-told invariant_loop decreases_loop) → let a = (start (loop c)).args in let r = c.before.before.part.result in
-    Going part_numbers (flat_map edges) (All RingLimits) a.numbers.now a.at r.next ((loop c).loop.left - 1) (to_z w64 (loop c).loop.total +ℤ to_z w64 (of_z w64 r.area))
+more : (c : tie.After-struct_told-1 invariant_loop decreases_loop) → let a = (start (loop c)).args in let r = c.part-one.result in
+    Going part_numbers (flat_map edges) (All RingLimits) a.numbers.now a.at r.next ((loop c).loop-left.left - 1) (to_z w64 (loop c).loop-left.total-bits +ℤ to_z w64 (of_z w64 r.area))
 more c =
-    let r = c.before.before.part.ensures in
-    let w = (loop c).loop.invariant in
-    rw (one_fits (going_place w (start (loop c)).pre (omega arith)) r) (going_more w (omega arith) r)
+    let r = c.part-one.ensures in
+    let w = (loop c).loop-left.invariant in
+    rw (one_fits (going_place w (start (loop c)).requires (omega arith)) r) (going_more w (omega arith) r)
 
-fits : (c : tie.After-struct-told invariant_loop decreases_loop) → SFits w64 (to_z w64 (loop c).loop.total +ℤ to_z w64 (of_z w64 c.before.before.part.result.area))
-fits c = going_fits (more c) (start (loop c)).pre
+fits : (c : tie.After-struct_told-1 invariant_loop decreases_loop) → SFits w64 (to_z w64 (loop c).loop-left.total-bits +ℤ to_z w64 (of_z w64 c.part-one.result.area))
+fits c = going_fits (more c) (start (loop c)).requires
 
 pub polygon_spec : {M : Type 1} → statement M
 polygon_spec =
@@ -57,9 +57,9 @@ polygon_spec =
     (λ c. omega (arith, count c.before.before))
     (λ c. omega (arith, count c.before.before))
     (λ c. going_begin part_numbers (flat_map edges) (All RingLimits) _ _)
-    (λ c κs. going_place c.before.loop.invariant (start c.before).pre (omega arith))
+    (λ c κs. going_place c.loop-left.invariant (start c.before).requires (omega arith))
     fits
     (λ c. omega arith)
     (λ c. omega arith)
     (λ c. rw (to_z-of_z {w = w64} (fits c)) (more c))
-    (λ c. going_done c.before.loop.invariant (omega arith)))
+    (λ c. going_done c.loop-left.invariant (omega arith)))

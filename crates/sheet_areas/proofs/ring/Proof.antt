@@ -33,16 +33,16 @@ count : (c : tie.Start) → let a = c.args in
 count c = let w = place_count point_numbers c.requires in (w.0, w.1, c.requires.fits.high)
 
 sum_requires : tie.Need-sum-requires
-sum_requires c κs = let s = c.before in let p = s.requires in (p.thing, p.rest, ring_at s.args.numbers.now s.args.at p.thing p.rest p.fits p.held p.numbers_at)
+sum_requires c κs = let s = c in let p = s.requires in (p.thing, p.rest, ring_at s.args.numbers.now s.args.at p.thing p.rest p.fits p.held p.numbers_at)
 
 returns : tie.Need-returns
 unfolding ring_area
 returns c =
-    let s = c.before.before.before in
+    let s = c in
     let numbers = s.args.numbers.now in
     let at = s.args.at in
-    let r = c.before.sum in
-    let same = returned r.result r.type-inv in
+    let r = c.sum in
+    let same = returned r.result r.type_inv in
     record {
       reads = λ a rest fits held w.
           let v = r.ensures a rest (ring_at numbers at a rest fits held w) in

@@ -9,56 +9,56 @@ use Rattle.sheet_blob.proofs.header.Statement.{statement}
 use Rattle.sheet_blob.proofs.header.Tie as tie
 
 -- ---- places: behind the letters, the version and the flags; what stands there
-abbrev start : tie.Else1 → tie.Start
+abbrev start : tie.Else-s-lt2 → tie.Start
 start c = c.before.before
 
-abbrev first : tie.Else3 → tie.Else1
+abbrev first : tie.Else-s-ne80 → tie.Else-s-lt2
 first c = c.before.before.before.before
 
-abbrev third : tie.Else5 → tie.Else3
+abbrev third : tie.Else-s-ne0 → tie.Else-s-ne80
 third c = c.before.before.before
 
-abbrev flags_in : tie.After-shared-slice-known5 → tie.Else5
+abbrev flags_in : tie.After-shared_slice_known-5-1 → tie.Else-s-ne0
 flags_in c = c.before.before
 
-lettered : (c : tie.Else3) → Lettered (start (first c)).args.s.now
-lettered c = ((first c).if1.false, c.before.before.if2.false, c.if3.false)
+lettered : (c : tie.Else-s-ne80) → Lettered (start (first c)).args.s.now
+lettered c = ((first c).if-s-lt2.false, c.if-s-ne71.false, c.if-s-ne80.false)
 
-versioned : (c : tie.Else5) → Versioned (start (first (third c))).args.s.now
-versioned c = (lettered (third c), c.before.before.if4.false, c.if5.false)
+versioned : (c : tie.Else-s-ne0) → Versioned (start (first (third c))).args.s.now
+versioned c = (lettered (third c), c.if-s-lt3.false, c.if-s-ne0.false)
 
-four : (c : tie.After-shared-slice-known5) → 4 ≤ length (start (first (third (flags_in c)))).args.s.now
-four c = c.before.if6.false
+four : (c : tie.After-shared_slice_known-5-1) → 4 ≤ length (start (first (third (flags_in c)))).args.s.now
+four c = c.if-s-lt4.false
 
-is_flagged : (c : tie.Else8) → Flagged (start (first (third (flags_in c.before.before)))).args.s.now
-is_flagged c = let d = c.before.before in (versioned (flags_in d), four d, c.before.if7.false, c.if8.false)
+is_flagged : (c : tie.Else-flags-ge2) → Flagged (start (first (third (flags_in c.before.before)))).args.s.now
+is_flagged c = let d = c.before.before in (versioned (flags_in d), four d, c.if-flags-ne0.false, c.if-flags-ge2.false)
 
 -- ---- the needs
-returns : tie.Need-returns
-returns c = sym (fault_refused _ (letters_cut c.if1.true))
+returns : tie.Need-returns-then-s-lt2
+returns c = sym (fault_refused _ (letters_cut c.if-s-lt2.true))
 
-returns_2 : tie.Need-returns-2
-returns_2 c = sym (fault_refused _ (letters c.before.before.if1.false (λ e. c.if2.true e.0)))
+returns_2 : tie.Need-returns-then-s-ne71
+returns_2 c = sym (fault_refused _ (letters c.if-s-lt2.false (λ e. c.if-s-ne71.true e.0)))
 
-returns_3 : tie.Need-returns-3
-returns_3 c = sym (fault_refused _ (letters c.before.before.before.before.if1.false (λ e. c.if3.true e.1)))
+returns_3 : tie.Need-returns-then-s-ne80
+returns_3 c = sym (fault_refused _ (letters c.if-s-lt2.false (λ e. c.if-s-ne80.true e.1)))
 
-returns_4 : tie.Need-returns-4
-returns_4 c = sym (fault_refused _ (version_cut (lettered c.before) c.if4.true))
+returns_4 : tie.Need-returns-then-s-lt3
+returns_4 c = sym (fault_refused _ (version_cut (lettered c.before) c.if-s-lt3.true))
 
-returns_5 : tie.Need-returns-5
-returns_5 c = sym (fault_refused _ (version (lettered c.before.before.before) c.before.before.if4.false c.if5.true))
+returns_5 : tie.Need-returns-then-s-ne0
+returns_5 c = sym (fault_refused _ (version (lettered c.before.before.before) c.if-s-lt3.false c.if-s-ne0.true))
 
-returns_6 : tie.Need-returns-6
-returns_6 c = sym (fault_refused _ (flags_cut (versioned c.before) c.if6.true))
+returns_6 : tie.Need-returns-then-s-lt4
+returns_6 c = sym (fault_refused _ (flags_cut (versioned c.before) c.if-s-lt4.true))
 
-returns_7 : tie.Need-returns-7
-returns_7 c = let d = c.before in sym (fault_refused _ (flags (versioned (flags_in d)) (four d) c.if7.true))
+returns_7 : tie.Need-returns-then-flags-ne0
+returns_7 c = let d = c.before in sym (fault_refused _ (flags (versioned (flags_in d)) (four d) c.if-flags-ne0.true))
 
-returns_8 : tie.Need-returns-8
-returns_8 c = let d = c.before.before in sym (fault_refused _ (kind (versioned (flags_in d)) (four d) c.before.if7.false c.if8.true))
+returns_8 : tie.Need-returns-then-flags-ge2
+returns_8 c = let d = c.before.before in sym (fault_refused _ (kind (versioned (flags_in d)) (four d) c.if-flags-ne0.false c.if-flags-ge2.true))
 
-returns_9 : tie.Need-returns-9
+returns_9 : tie.Need-returns
 returns_9 c = c.rest.ensures ∙ sym (flagged _ (is_flagged c.before))
 
 pub header_spec : {M : Type 1} → statement M

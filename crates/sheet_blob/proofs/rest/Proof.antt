@@ -28,22 +28,22 @@ module _ (s : List ℕ) (flags : ℕ) (q : flags ≡ flags_at s) where
       → Read (record { number = n; at = 40; envelope = Present e }) ≡ rest_of s
   enveloped n e forty k a b = rw (a, b, q) (sym (rest_enveloped s forty (λ z. k (rw q z))))
 
-returns_2 : tie.Need-returns-2
-returns_2 c = let d = c.before in bare _ _ d.before.before.before.requires _ (omega arith) c.if2.true d.word.ensures
+returns_2 : tie.Need-returns-then-flags-eq0
+returns_2 c = let d = c in bare _ _ d.requires _ (omega arith) c.if-flags-eq0.true d.word-number.ensures
 
-returns_3 : tie.Need-returns-3
-returns_3 c = short _ _ c.before.before.before.before.before.requires (omega arith) c.before.if2.false c.if3.true
+returns_3 : tie.Need-returns-then-s-lt40
+returns_3 c = short _ _ c.requires (omega arith) c.if-flags-eq0.false c.if-s-lt40.true
 
-returns_4 : tie.Need-returns-4
+returns_4 : tie.Need-returns
 returns_4 c =
-    let d = c.before.before in
-    enveloped _ _ d.before.before.before.before.requires _ _ c.before.if3.false d.if2.false d.before.word.ensures c.read.ensures
+    let d = c in
+    enveloped _ _ d.requires _ _ c.if-s-lt40.false d.if-flags-eq0.false d.word-number.ensures c.read-envelope.ensures
 
 pub rest_spec : {M : Type 1} → statement M
 rest_spec =
     tie.close
     (tie.spec
-    (λ c. sym (rest_cut c.before.before.args.s.now c.if1.true))
+    (λ c. sym (rest_cut c.args.s.now c.if-s-lt8.true))
     (λ c κs. search rules)
     returns_2
     returns_3

@@ -23,32 +23,32 @@ held_is h w z r q e = let f = e ∙ ap held_of q in (subst Held (sym f) (held_in
 abbrev start : tie.After-word → tie.Start
 start c = c.before.before
 
-abbrev first : tie.After-word2 → tie.After-word
+abbrev first : tie.After-word-2 → tie.After-word
 first c = c.before.before
 
 x_is : (c : tie.After-word) → to_z w32 c.word.result ≡ to_z w32 (word_at true (start c).args.form.now (8 * (start c).args.i + 4))
 x_is c = ap (to_z w32) c.word.ensures
 
-y_is : (c : tie.After-word2) → to_z w32 c.word2.result ≡ to_z w32 (word_at true (start (first c)).args.form.now (8 * (start (first c)).args.i + 8))
-y_is c = ap (to_z w32) c.word2.ensures ∙ ap (λ k. to_z w32 (word_at true (start (first c)).args.form.now k)) (let e : 8 * (start (first c)).args.i + 4 + 4 ≡ 8 * (start (first c)).args.i + 8 = omega arith in e)
+y_is : (c : tie.After-word-2) → to_z w32 c.word-2.result ≡ to_z w32 (word_at true (start (first c)).args.form.now (8 * (start (first c)).args.i + 8))
+y_is c = ap (to_z w32) c.word-2.ensures ∙ ap (λ k. to_z w32 (word_at true (start (first c)).args.form.now k)) (let e : 8 * (start (first c)).args.i + 4 + 4 ≡ 8 * (start (first c)).args.i + 8 = omega arith in e)
 
 returns : tie.Need-returns
 returns c =
     let d = c.before in
     let o = start (first d) in
-    let x = held_is d.before.held.result (first d).word.result _ o.pre.x (x_is (first d)) d.before.held.ensures in
-    let y = held_is c.held2.result d.word2.result _ o.pre.y (y_is d) c.held2.ensures in
+    let x = held_is d.held.result (first d).word.result _ o.requires.x (x_is (first d)) d.held.ensures in
+    let y = held_is c.held-2.result d.word-2.result _ o.requires.y (y_is d) c.held-2.ensures in
     (record { x = x.0; y = y.0 }, λ j. record { x = x.1 j; y = y.1 j })
 
 pub corner_spec : {M : Type 1} → statement M
 corner_spec =
     tie.close
     (tie.spec
-    (λ c. omega (arith, c.before.requires.there))
-    (λ c. omega (arith, c.before.requires.there))
-    (λ c κs. omega (arith, c.before.requires.there))
+    (λ c. omega (arith, c.requires.there))
+    (λ c. omega (arith, c.requires.there))
+    (λ c κs. omega (arith, c.requires.there))
     (λ c κs. rw (x_is c) (start c).requires.x)
-    (λ c. omega (arith, c.before.before.before.requires.there))
-    (λ c κs. omega (arith, c.before.before.before.requires.there))
+    (λ c. omega (arith, c.requires.there))
+    (λ c κs. omega (arith, c.requires.there))
     (λ c κs. rw (y_is c) (start (first c)).requires.y)
     returns)

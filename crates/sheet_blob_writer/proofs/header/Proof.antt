@@ -32,8 +32,8 @@ stored number f e out p last q a b =
 returns : tie.Need-returns
 returns c =
     let d = c.before.before in
-    let e = d.before.before in
-    stored _ _ _ _ _ _ e.of-frame.ensures e.before.before.before.put.ensures d.put2.ensures
+    let e = d in
+    stored _ _ _ _ _ _ e.of_frame.ensures e.put.ensures d.put-2.ensures
 
 pub header_spec : {M : Type 1} → statement M
 header_spec =

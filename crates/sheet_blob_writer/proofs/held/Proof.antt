@@ -32,14 +32,14 @@ held_high b h k =
     let f : b - 4_284_967_296 ≡ 10_000_000 - suc m = omega arith in
     f ∙ sym e ∙ sym (ap held_of (signed_high b (omega arith)))
 
-above : (c : tie.Else1) → 4_284_967_296 ≤ c.before.args.b
-above c = high c.before.args.b (omega arith) (omega arith) c.before.requires
+above : (c : tie.Else-b-le10000000) → 4_284_967_296 ≤ c.args.b
+above c = high c.args.b (omega arith) (omega arith) c.requires
 
 pub held_spec : {M : Type 1} → statement M
 held_spec =
     tie.close
     (tie.spec
     (λ c. search rules)
-    (λ c. held_low c.before.args.b c.if1.true)
+    (λ c. held_low c.args.b c.if-b-le10000000.true)
     (λ c. omega (arith, above c))
-    (λ c. held_high c.before.args.b (above c) (omega arith)))
+    (λ c. held_high c.args.b (above c) (omega arith)))

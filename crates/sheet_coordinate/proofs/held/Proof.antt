@@ -10,10 +10,10 @@ use Rattle.sheet_coordinate.proofs.held.Tie as tie
 sum : (c : tie.Start) → to_z w32 (of_z w32 (to_z w32 (of_z w32 c.args.n) +ℤ pos 10_000_000)) ≡ pos (held_of c.args.n)
 sum c = rw (to_z-of_z {w = w32} c.ranges.n, held_is c.args.n c.requires) (to_z-of_z {w = w32} (record { sfits = omega (arith, held_in c.args.n c.requires) }))
 
-add_result : tie.Need-overflow-add-result
+add_result : tie.Need-overflow_add-result
 add_result c = rw (to_z-of_z {w = w32} c.ranges.n, held_is c.args.n c.requires) (record { sfits = omega (arith, held_in c.args.n c.requires) })
 
-cast_result : tie.Need-overflow-cast-result
+cast_result : tie.Need-overflow_cast-result
 cast_result c = rw (sum c) (tt, record { fits = omega (arith, held_in c.args.n c.requires) })
 
 returns : tie.Need-returns

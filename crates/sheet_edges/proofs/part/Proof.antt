@@ -9,23 +9,23 @@ use Rattle.sheet_edges.proofs.Walk.{Going, room_first, going_begin, going_room, 
 use Rattle.sheet_edges.proofs.part.Statement.{statement}
 use Rattle.sheet_edges.proofs.part.Tie as tie
 
-abbrev invariant_loop : tie.invariant_loop
+abbrev invariant_loop : tie.invariant-loop-left
 invariant_loop numbers at from₀ to₀ fill laid₀ left₀ from to laid left = Going ring_numbers (flat_map edges) numbers at fill from₀ to₀ from to laid.at laid.fill left
 
-abbrev decreases_loop : tie.decreases_loop
+abbrev decreases_loop : tie.decreases-loop-left
 decreases_loop numbers at from₀ to₀ fill laid₀ left₀ from to laid left = left
 
-loop_holds : tie.Need-loop-init invariant_loop decreases_loop
-loop_holds c = let a = c.before.before.before.before.args in going_begin ring_numbers (flat_map edges) a.numbers.now a.at a.fill a.from.now a.to.now
+loop_holds : tie.Need-loop-left-init invariant_loop decreases_loop
+loop_holds c = let a = c.args in going_begin ring_numbers (flat_map edges) a.numbers.now a.at a.fill a.from.now a.to.now
 
-ring_requires : tie.Need-ring-requires invariant_loop decreases_loop
-ring_requires c κs = going_room c.before.before.before.before.before.before.before.before.requires c.before.before.before.loop.invariant (omega arith)
+ring_requires : tie.Need-ring-laid-requires invariant_loop decreases_loop
+ring_requires c κs = going_room c.requires c.loop-left.invariant (omega arith)
 
-loop_again : tie.Need-loop-preserved invariant_loop decreases_loop
-loop_again c = going_more c.before.before.before.before.before.before.before.before.loop.invariant (omega arith) c.before.before.before.before.ring.ensures
+loop_again : tie.Need-loop-left-preserved invariant_loop decreases_loop
+loop_again c = going_more c.loop-left.invariant (omega arith) c.ring-laid.ensures
 
 returns : tie.Need-returns invariant_loop decreases_loop
-returns c = going_done edges c.before.loop.invariant (omega arith)
+returns c = going_done edges c.loop-left.invariant (omega arith)
 
 pub part_spec : {M : Type 1} → statement M
 part_spec =
@@ -33,15 +33,15 @@ part_spec =
     (tie.spec
     invariant_loop
     decreases_loop
-    (λ c. let h = room_first ring_numbers c.before.before.before.requires in omega arith)
-    (λ c. let h = room_first ring_numbers c.before.before.before.requires in omega arith)
-    (λ c. (room_first ring_numbers c.before.before.before.before.requires).0)
-    (λ c. (room_first ring_numbers c.before.before.before.before.requires).1)
+    (λ c. let h = room_first ring_numbers c.requires in omega arith)
+    (λ c. let h = room_first ring_numbers c.requires in omega arith)
+    (λ c. (room_first ring_numbers c.requires).0)
+    (λ c. (room_first ring_numbers c.requires).1)
     loop_holds
     ring_requires
     (λ c. omega arith)
     (λ c. omega arith)
     loop_again
-    (λ c. from_length c.before.loop.invariant.stored)
-    (λ c. to_length c.before.loop.invariant.stored)
+    (λ c. from_length c.loop-left.invariant.stored)
+    (λ c. to_length c.loop-left.invariant.stored)
     returns)

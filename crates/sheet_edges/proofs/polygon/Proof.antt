@@ -9,23 +9,23 @@ use Rattle.sheet_edges.proofs.Walk.{Going, room_first, going_begin, going_room, 
 use Rattle.sheet_edges.proofs.polygon.Statement.{statement}
 use Rattle.sheet_edges.proofs.polygon.Tie as tie
 
-abbrev invariant_loop : tie.invariant_loop
+abbrev invariant_loop : tie.invariant-loop-left
 invariant_loop numbers at from₀ to₀ laid₀ left₀ from to laid left = Going part_numbers (flat_map (flat_map edges)) numbers at 0 from₀ to₀ from to laid.at laid.fill left
 
-abbrev decreases_loop : tie.decreases_loop
+abbrev decreases_loop : tie.decreases-loop-left
 decreases_loop numbers at from₀ to₀ laid₀ left₀ from to laid left = left
 
-loop_holds : tie.Need-loop-init invariant_loop decreases_loop
-loop_holds c = let a = c.before.before.before.before.args in going_begin part_numbers (flat_map (flat_map edges)) a.numbers.now a.at 0 a.from.now a.to.now
+loop_holds : tie.Need-loop-left-init invariant_loop decreases_loop
+loop_holds c = let a = c.args in going_begin part_numbers (flat_map (flat_map edges)) a.numbers.now a.at 0 a.from.now a.to.now
 
-part_requires : tie.Need-part-requires invariant_loop decreases_loop
-part_requires c κs = going_room c.before.before.before.before.before.before.before.before.requires c.before.before.before.loop.invariant (omega arith)
+part_requires : tie.Need-part-laid-requires invariant_loop decreases_loop
+part_requires c κs = going_room c.requires c.loop-left.invariant (omega arith)
 
-loop_again : tie.Need-loop-preserved invariant_loop decreases_loop
-loop_again c = going_more c.before.before.before.before.before.before.before.before.loop.invariant (omega arith) c.before.before.before.before.part.ensures
+loop_again : tie.Need-loop-left-preserved invariant_loop decreases_loop
+loop_again c = going_more c.loop-left.invariant (omega arith) c.part-laid.ensures
 
 returns : tie.Need-returns invariant_loop decreases_loop
-returns c = lays_down c.before.before.before.before.before.before.requires (going_done (flat_map edges) c.before.loop.invariant (omega arith))
+returns c = lays_down c.requires (going_done (flat_map edges) c.loop-left.invariant (omega arith))
 
 pub polygon_spec : {M : Type 1} → statement M
 polygon_spec =
@@ -33,15 +33,15 @@ polygon_spec =
     (tie.spec
     invariant_loop
     decreases_loop
-    (λ c. let h = room_first part_numbers c.before.before.before.requires in omega arith)
-    (λ c. let h = room_first part_numbers c.before.before.before.requires in omega arith)
-    (λ c. (room_first part_numbers c.before.before.before.before.requires).0)
-    (λ c. (room_first part_numbers c.before.before.before.before.requires).1)
+    (λ c. let h = room_first part_numbers c.requires in omega arith)
+    (λ c. let h = room_first part_numbers c.requires in omega arith)
+    (λ c. (room_first part_numbers c.requires).0)
+    (λ c. (room_first part_numbers c.requires).1)
     loop_holds
     part_requires
     (λ c. omega arith)
     (λ c. omega arith)
     loop_again
-    (λ c. from_length c.before.loop.invariant.stored)
-    (λ c. to_length c.before.loop.invariant.stored)
+    (λ c. from_length c.loop-left.invariant.stored)
+    (λ c. to_length c.loop-left.invariant.stored)
     returns)

@@ -30,13 +30,13 @@ four e o p q r last to k l m n ek el em en ep eq er es =
     ∙ sets_behind o a (b ++ c ++ d) to (to + 8) (omega (arith, set_length (to_bits binary64 e.left)))
 
 -- ---- places: behind each store, and the entry
-abbrev third : tie.After-put4 → tie.After-put3
+abbrev third : tie.After-put-4 → tie.After-put-3
 third c = c.before.before.before.before.before
 
-abbrev second : tie.After-put3 → tie.After-put2
+abbrev second : tie.After-put-3 → tie.After-put-2
 second c = c.before.before.before.before.before
 
-abbrev first : tie.After-put2 → tie.After-put
+abbrev first : tie.After-put-2 → tie.After-put
 first c = c.before.before.before.before.before
 
 returns : tie.Need-returns
@@ -45,8 +45,8 @@ returns c =
     let d3 = third d4 in
     let d2 = second d3 in
     let d1 = first d2 in
-    four _ _ _ _ _ _ _ _ _ _ _ d1.before.pattern.ensures d2.before.pattern2.ensures d3.before.pattern3.ensures d4.before.pattern4.ensures
-    d1.put.ensures d2.put2.ensures d3.put3.ensures d4.put4.ensures
+    four _ _ _ _ _ _ _ _ _ _ _ d1.pattern.ensures d2.pattern-2.ensures d3.pattern-3.ensures d4.pattern-4.ensures
+    d1.put.ensures d2.put-2.ensures d3.put-3.ensures d4.put-4.ensures
 
 pub put_spec : {M : Type 1} → statement M
 put_spec =

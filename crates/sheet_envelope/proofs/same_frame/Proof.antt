@@ -50,28 +50,28 @@ module _ (e b : Envelope) (f : Frame) (q : b ≡ around f) where
       rw (q, z, y, x) refl
 
 -- ---- places: the call, and behind each test
-abbrev one : tie.Else1 → tie.After-of-frame
+abbrev one : tie.Else-e-b → tie.After-of_frame-b
 one c = c.before.before.before
 
-abbrev two : tie.Else2 → tie.Else1
+abbrev two : tie.Else-e-b-2 → tie.Else-e-b
 two c = c.before.before.before
 
-abbrev three : tie.Else3 → tie.Else2
+abbrev three : tie.Else-e-b-3 → tie.Else-e-b-2
 three c = c.before.before.before
 
-returns : tie.Need-returns
-returns c = left_differs _ _ _ c.before.before.before.of-frame.ensures c.if1.true
+returns : tie.Need-returns-then-e-b
+returns c = left_differs _ _ _ c.of_frame-b.ensures c.if-e-b.true
 
-returns_2 : tie.Need-returns-2
-returns_2 c = let d = c.before.before.before in right_differs _ _ _ (one d).of-frame.ensures d.if1.false c.if2.true
+returns_2 : tie.Need-returns-then-e-b-2
+returns_2 c = let d = c.before.before.before in right_differs _ _ _ (one d).of_frame-b.ensures d.if-e-b.false c.if-e-b-2.true
 
-returns_3 : tie.Need-returns-3
-returns_3 c = let d = c.before.before.before in low_differs _ _ _ (one (two d)).of-frame.ensures (two d).if1.false d.if2.false c.if3.true
+returns_3 : tie.Need-returns-then-e-b-3
+returns_3 c = let d = c.before.before.before in low_differs _ _ _ (one (two d)).of_frame-b.ensures (two d).if-e-b.false d.if-e-b-2.false c.if-e-b-3.true
 
-returns_4 : tie.Need-returns-4
+returns_4 : tie.Need-returns
 returns_4 c =
     let d = c.before.before in
-    high_decides _ _ _ (one (two (three d))).of-frame.ensures (two (three d)).if1.false (three d).if2.false d.if3.false
+    high_decides _ _ _ (one (two (three d))).of_frame-b.ensures (two (three d)).if-e-b.false (three d).if-e-b-2.false d.if-e-b-3.false
 
 pub same_frame_spec : {M : Type 1} → statement M
 same_frame_spec = tie.close (tie.spec (λ c κs. search rules) returns returns_2 returns_3 returns_4)

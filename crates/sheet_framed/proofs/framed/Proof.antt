@@ -8,14 +8,14 @@ use Rattle.sheet_framed.specs.Framed.{frame_on}
 use Rattle.sheet_framed.proofs.framed.Statement.{statement}
 use Rattle.sheet_framed.proofs.framed.Tie as tie
 
-returns : tie.Need-returns
-returns c = λ limit n h. sym (ap (λ o. agrees o (frame_on n)) c.enum_told.given.1)
+returns : tie.Need-returns-in-Absent
+returns c = λ limit n h. sym (ap (λ o. agrees o (frame_on n)) c.in-Absent.is)
 
-returns_2 : tie.Need-returns-2
+returns_2 : tie.Need-returns-in-Present
 returns_2 c = λ limit n h.
     let f = c.before in
-    let e = f.before.before in
-    c.agrees.ensures ∙ ap (agrees (Present e.envelope.given.0.0)) (f.frame.ensures.1 limit n h) ∙ sym (ap (λ o. agrees o (frame_on n)) e.envelope.given.1)
+    let e = f in
+    c.agrees.ensures ∙ ap (agrees (Present e.in-Present.e)) (f.frame.ensures.1 limit n h) ∙ sym (ap (λ o. agrees o (frame_on n)) e.in-Present.is)
 
 pub framed_spec : {M : Type 1} → statement M
 framed_spec =
@@ -23,7 +23,7 @@ framed_spec =
     (tie.spec
     (λ c. search rules)
     (λ c. search rules)
-    (λ c κs. c.before.before.before.before.requires)
+    (λ c κs. c.requires)
     (λ c κs. search rules)
     returns
     returns_2)

@@ -18,7 +18,7 @@ agreeing (Header h) n = refl
 
 returns : tie.Need-returns
 returns c = λ limit n held.
-    c.framed.ensures limit n held ∙ ap (λ (e : Optional). agrees e (frame_on n)) c.before.envelope.ensures ∙ agreeing c.before.before.before.args.around n
+    c.framed.ensures limit n held ∙ ap (λ (e : Optional). agrees e (frame_on n)) c.envelope.ensures ∙ agreeing c.args.around n
 
 pub framed_spec : {M : Type 1} → statement M
 framed_spec = tie.close (tie.spec (λ c κs. search rules) (λ c κs. search rules) returns)

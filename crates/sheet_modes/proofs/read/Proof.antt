@@ -33,7 +33,7 @@ wrapped mode = record { form = blob; edition = cond (eqb mode 3) older present }
 
 -- ---- places
 -- A sheet by itself.
-module _ (d : tie.After-sheet-of) where
+module _ (d : tie.After-sheet_of) where
   abbrev alone_start : tie.Start
   alone_start = d.before.before.before.before.before.before
 
@@ -41,7 +41,7 @@ module _ (d : tie.After-sheet-of) where
   alone_mode = alone_start.args.mode
 
   pub is_alone : mode_of alone_mode ≡ value (alone alone_mode)
-  is_alone = plain_mode alone_mode d.before.before.if2.taken
+  is_alone = plain_mode alone_mode d.if-mode-lt2.true
 
 -- A blob: its header is read or refused.
 module _ (d : tie.After-header) where
@@ -55,75 +55,75 @@ module _ (d : tie.After-header) where
   S = blob_start.args.s.now
 
   pub is_wrapped : mode_of blob_asked ≡ value (wrapped blob_asked)
-  is_wrapped = blob_mode blob_asked d.before.if2.left d.before.before.if1.left
+  is_wrapped = blob_mode blob_asked d.if-mode-lt2.false d.if-mode-gt3.false
 
 -- Its header was read, and behind it the sheet.
-module _ (h : tie.After-h) where
+module _ (h : tie.In-Read) where
   abbrev A : tie.After-header
-  A = h.before.before
+  A = h.before
 
   abbrev H : Opened
-  H = h.h.given.0.0
+  H = h.in-Read.h
 
   pub opens : opening_of (S A) ≡ HeaderRead H
-  opens = sym A.header.ensures ∙ h.h.given.1
+  opens = sym A.header.ensures ∙ h.in-Read.is
 
   pub inside : H.at ≤ length (S A)
   inside = (begins_within (S A) H opens).1
 
-module _ (d : tie.After-sheet-of2) where
-  abbrev O : tie.After-h
-  O = d.before.before.before.before
+module _ (d : tie.After-sheet_of-in-Read) where
+  abbrev O : tie.In-Read
+  O = d.before.before.before
 
-  pub ends : EndsAs (wrapped (blob_asked (A O))).edition (drop (H O).at (S (A O))) d.sheet-of2.result d.sheet-of2.last.1.1.0
-  ends = subst (λ s. EndsAs (wrapped (blob_asked (A O))).edition s d.sheet-of2.result d.sheet-of2.last.1.1.0) (part_to_end (S (A O)) (H O).at) d.sheet-of2.ensures.0
+  pub ends : EndsAs (wrapped (blob_asked (A O))).edition (drop (H O).at (S (A O))) d.sheet_of-in-Read.result d.sheet_of-in-Read.new.numbers
+  ends = subst (λ s. EndsAs (wrapped (blob_asked (A O))).edition s d.sheet_of-in-Read.result d.sheet_of-in-Read.new.numbers) (part_to_end (S (A O)) (H O).at) d.sheet_of-in-Read.ensures.0
 
 -- ---- the needs
-returns : tie.Need-returns
+returns : tie.Need-returns-then-mode-gt3
 returns c =
-    let u = mode_unknown c.before.before.before.args.mode c.if1.true in
-    (((by_refused members _ _ 57 0).1 (inl u), ap (λ a. position_in a c.before.before.before.args.s.now) (sym u)), refl)
+    let u = mode_unknown c.args.mode c.if-mode-gt3.true in
+    (((by_refused members _ _ 57 0).1 (inl u), ap (λ a. position_in a c.args.s.now) (sym u)), refl)
 
-returns_2 : tie.Need-returns-2
+returns_2 : tie.Need-returns-in-Refused
 returns_2 c =
-    let d = c.before.before.before.before.before in
-    let w = d.sheet-of.ensures in
-    (got_refused (alone_mode d) (alone_start d).args.s.now d.sheet-of.new.1.1.0 (alone (alone_mode d)) (is_alone d) none refl _ _ _ _ (omega arith) d.sheet-of.result c.before.code.given.1 w.0, w.1)
+    let d = c.before.before.before in
+    let w = d.sheet_of.ensures in
+    (got_refused (alone_mode d) (alone_start d).args.s.now d.sheet_of.new.numbers (alone (alone_mode d)) (is_alone d) none refl _ _ _ _ (omega arith) d.sheet_of.result c.in-Refused.is w.0, w.1)
 
-returns_3 : tie.Need-returns-3
+returns_3 : tie.Need-returns-in-Sheet
 returns_3 c =
-    let d = c.before.before.before.before.before in
-    let w = d.sheet-of.ensures in
-    (got_sheet (alone_mode d) (alone_start d).args.s.now d.sheet-of.new.1.1.0 (alone (alone_mode d)) (is_alone d) none refl _ Nothing refl d.sheet-of.result c.before.n.given.1 w.0, w.1)
+    let d = c.before.before.before in
+    let w = d.sheet_of.ensures in
+    (got_sheet (alone_mode d) (alone_start d).args.s.now d.sheet_of.new.numbers (alone (alone_mode d)) (is_alone d) none refl _ Nothing refl d.sheet_of.result c.in-Sheet.is w.0, w.1)
 
-sub_sheet_of : tie.Need-overflow-sub-sheet-of
-sub_sheet_of c = inside c.before
+sub_sheet_of : tie.Need-slice_bounds-sheet_of-count
+sub_sheet_of c = inside c
 
-part_sheet_of_start : tie.Need-slice-bounds-sheet-of-start
-part_sheet_of_start c = inside c.before
+part_sheet_of_start : tie.Need-slice_bounds-sheet_of-start
+part_sheet_of_start c = inside c
 
-add_t34 : tie.Need-overflow-add-t34
+add_t34 : tie.Need-overflow_add-result
 add_t34 c =
-    let d = c.before.before.before.before.before in
-    let e = subst (λ r. EndsAs (wrapped (blob_asked (A (O d)))).edition (drop (H (O d)).at (S (A (O d)))) r d.sheet-of2.new.1.1.0) c.before.code3.given.1 (ends d) in
-    omega (arith, e.3, length-drop (H (O d)).at (S (A (O d))), inside (O d), (blob_start (A (O d))).good.0.1)
+    let d = c.before.before.before in
+    let e = subst (λ r. EndsAs (wrapped (blob_asked (A (O d)))).edition (drop (H (O d)).at (S (A (O d)))) r d.sheet_of-in-Read.new.numbers) c.in-Refused-sheet_of.is (ends d) in
+    omega (arith, e.3, length-drop (H (O d)).at (S (A (O d))), inside (O d), (blob_start (A (O d))).well_formed.0.1)
 
-returns_4 : tie.Need-returns-4
+returns_4 : tie.Need-returns-in-Refused-header
 returns_4 c =
-    let a = c.before.before.before in
-    (got_header (blob_asked a) (S a) (blob_start a).args.numbers.now (wrapped (blob_asked a)) (is_wrapped a) refl _ _ (sym a.header.ensures ∙ c.before.code2.given.1), refl)
+    let a = c.before in
+    (got_header (blob_asked a) (S a) (blob_start a).args.numbers.now (wrapped (blob_asked a)) (is_wrapped a) refl _ _ (sym a.header.ensures ∙ c.in-Refused-header.is), refl)
 
-returns_5 : tie.Need-returns-5
+returns_5 : tie.Need-returns-in-Refused-sheet_of
 returns_5 c =
-    let d = c.before.before.before.before.before in
+    let d = c.before.before.before in
     let a = A (O d) in
-    (got_refused (blob_asked a) (S a) d.sheet-of2.new.1.1.0 (wrapped (blob_asked a)) (is_wrapped a) (some (H (O d))) (ap headed (opens (O d))) _ _ _ _ refl d.sheet-of2.result c.before.code3.given.1 (ends d), d.sheet-of2.ensures.1)
+    (got_refused (blob_asked a) (S a) d.sheet_of-in-Read.new.numbers (wrapped (blob_asked a)) (is_wrapped a) (some (H (O d))) (ap headed (opens (O d))) _ _ _ _ refl d.sheet_of-in-Read.result c.in-Refused-sheet_of.is (ends d), d.sheet_of-in-Read.ensures.1)
 
-returns_6 : tie.Need-returns-6
+returns_6 : tie.Need-returns-in-Sheet-sheet_of
 returns_6 c =
-    let d = c.before.before.before.before.before in
+    let d = c.before.before.before in
     let a = A (O d) in
-    (got_sheet (blob_asked a) (S a) d.sheet-of2.new.1.1.0 (wrapped (blob_asked a)) (is_wrapped a) (some (H (O d))) (ap headed (opens (O d))) _ (Header (H (O d))) refl d.sheet-of2.result c.before.n2.given.1 (ends d), d.sheet-of2.ensures.1)
+    (got_sheet (blob_asked a) (S a) d.sheet_of-in-Read.new.numbers (wrapped (blob_asked a)) (is_wrapped a) (some (H (O d))) (ap headed (opens (O d))) _ (Header (H (O d))) refl d.sheet_of-in-Read.result c.in-Sheet-sheet_of.is (ends d), d.sheet_of-in-Read.ensures.1)
 
 pub read_spec : {M : Type 1} → statement M
 read_spec =

@@ -5,7 +5,7 @@ use mathlib.Core.List.{List}
 use Prim.Native.Nat.{ℕ, ◌*◌, ◌≤◌, ◌<◌}
 use native.Mathlib.Omega.{arith}
 use borrow.Author.Rules.{rules}
-use borrow.Author.Tests.{eqb-false, not-true, not-false}
+use borrow.Author.Tests.{eqb-false}
 use lib.ListN.{length, take, drop, length-append, length-drop}
 use lib.Seq.{length-take-le, take_at}
 use Rattle.whole.specs.Sums.{All}
@@ -36,7 +36,7 @@ use Rattle.sheet_modes.proofs.sheet_of.Tie as tie
 -- The position of a refusal is within the bytes.
 inside : (s : List ℕ) (code item field : ℕ) → read_of (reading_of members s) ≡ Refused code item field → field ≤ length s
 inside s code item field e =
-    let f = (refused_exactly members s _ _ _).0 (record { code_is = refl; item-is = refl; position-is = refl }, eqb-false _ 0 (code_is members s code item field e)) in
+    let f = (refused_exactly members s _ _ _).0 (record { code_is = refl; item_is = refl; position_is = refl }, eqb-false _ 0 (code_is members s code item field e)) in
     rw (position_is members s code item field e) (within_bytes members s _ _ _ f)
 
 module _ (s : List ℕ) (all : All (λ b. b < 256) s) (numbers₀ numbers : List ℕ) (long : Room s numbers₀) (laid_over : numbers ≡ laid (reading_of members s).numbers numbers₀) where
@@ -68,60 +68,60 @@ rings_turned : (turns : Bool) → turns ≡ true → (n : Sheet) → RingsFit (t
 rings_turned turns t n h = rw t h
 
 -- ---- places
-abbrev start : tie.After-read → tie.Start
+abbrev start : tie.After-read-ending → tie.Start
 start d = d.before.before.before.before
 
-module _ (d : tie.After-read) where
+module _ (d : tie.After-read-ending) where
   abbrev S : List ℕ
   S = (start d).args.s.now
 
   bytes : All (λ b. b < 256) S
-  bytes = all_from (λ x. x < 256) 0 S (λ i l. (d.before.before.before.shared-slice-known.given i).fits)
+  bytes = all_from (λ x. x < 256) 0 S (λ i l. (d.shared_slice_known-1.given i).fits)
 
 -- A sheet was read, of the older edition.
-module _ (e : tie.After-ending) where
-  abbrev D : tie.After-read
-  D = e.before.before.before.before.before
+module _ (e : tie.In-Sheet) where
+  abbrev D : tie.After-read-ending
+  D = e.before.before.before.before
 
   abbrev K : ℕ
-  K = e.ending.given.0.0
+  K = e.in-Sheet.n
 
-  pub sheet : (n : Sheet) × (read_sheet members (S D) ≡ value n) × SheetHeld members n (take K D.read.last.1.1.0) × (K ≤ length D.read.last.1.1.0) × RingsFit n × (4 * K ≤ length (S D))
-  sheet = stood (S D) (bytes D) _ _ (start D).pre D.read.ensures.1 K (sym D.read.ensures.0 ∙ e.ending.given.1)
+  pub sheet : (n : Sheet) × (read_sheet members (S D) ≡ value n) × SheetHeld members n (take K D.read-ending.new.numbers) × (K ≤ length D.read-ending.new.numbers) × RingsFit n × (4 * K ≤ length (S D))
+  sheet = stood (S D) (bytes D) _ _ (start D).requires D.read-ending.ensures.1 K (sym D.read-ending.ensures.0 ∙ e.in-Sheet.is)
 
 -- ---- the needs
-returns : tie.Need-returns
+returns : tie.Need-returns-then-not-turns
 returns c =
     let d = c.before.before.before in
-    let r = d.read.ensures in
-    (rw (not-true (start d).args.turns c.if1.true) (as_read (S d) (bytes d) _ _ (start d).requires r.1 _ r.0), room _ _ _ r.1)
+    let r = d.read-ending.ensures in
+    (rw c.if-not-turns.true (as_read (S d) (bytes d) _ _ (start d).requires r.1 _ r.0), room _ _ _ r.1)
 
-returns_2 : tie.Need-returns-2
+returns_2 : tie.Need-returns-in_default
 returns_2 c =
-    let d = c.before.before.before.before.before in
-    let r = d.read.ensures in
-    (rw c.enum_told.given.1 (refused_as (S d) (bytes d) _ _ (start d).requires r.1 (cond (start d).args.turns older present) _ _ _ (sym r.0 ∙ c.enum_told.given.1)), room _ _ _ r.1)
+    let d = c.before.before.before.before in
+    let r = d.read-ending.ensures in
+    (rw c.in_default.is (refused_as (S d) (bytes d) _ _ (start d).requires r.1 (cond (start d).args.turns older present) _ _ _ (sym r.0 ∙ c.in_default.is)), room _ _ _ r.1)
 
-slice_relend_prefix_turn : tie.Need-slice-relend-prefix-turn
-slice_relend_prefix_turn c = (sheet c.before).3
+slice_relend_prefix_turn : tie.Need-slice_bounds-turn-end
+slice_relend_prefix_turn c = (sheet c).3
 
-slice_aggregate_turn : tie.Need-slice-aggregate-turn
-slice_aggregate_turn c = sym (length-take-le _ _ (sheet c.before.before).3)
+slice_aggregate_turn : tie.Need-slice_bounds-turn-end-2
+slice_aggregate_turn c = sym (length-take-le _ _ (sheet c.before).3)
 
 turn_requires : tie.Need-turn-requires
-turn_requires c κs = let (n, r, h, l, f, p) = sheet c.before.before in (members, n, h, f)
+turn_requires c κs = let (n, r, h, l, f, p) = sheet c.before in (members, n, h, f)
 
-returns_3 : tie.Need-returns-3
+returns_3 : tie.Need-returns
 returns_3 c =
-    let e = c.before.before.before.before.before in
-    let w = c.before.before.turn in
+    let e = c.before.before.before.before in
+    let w = c.turn in
     let (n, r, h, l, f, p) = sheet e in
-    let m = w.ensures.1 ∙ length-take-le (K e) (D e).read.new.1.1.0 l in
-    let a = length-append w.new.0 (drop (K e) (D e).read.new.1.1.0) in
-    let d = length-drop (K e) (D e).read.new.1.1.0 in
-    let t = not-false (start (D e)).args.turns e.before.before.if1.false in (
-      (n, r, as_turned _ t n _ (subst (SheetHeld members (turned n)) (sym (take_at w.new.0 _ (K e) m)) (w.ensures.0 members n h f)), omega arith, rings_turned _ t n (turned_rings n f), p),
-      omega (arith, room _ _ _ (D e).read.ensures.1),
+    let m = w.ensures.1 ∙ length-take-le (K e) (D e).read-ending.new.numbers l in
+    let a = length-append w.new.numbers (drop (K e) (D e).read-ending.new.numbers) in
+    let d = length-drop (K e) (D e).read-ending.new.numbers in
+    let t = e.if-not-turns.false in (
+      (n, r, as_turned _ t n _ (subst (SheetHeld members (turned n)) (sym (take_at w.new.numbers _ (K e) m)) (w.ensures.0 members n h f)), omega arith, rings_turned _ t n (turned_rings n f), p),
+      omega (arith, room _ _ _ (D e).read-ending.ensures.1),
     )
 
 pub sheet_of_spec : {M : Type 1} → statement M

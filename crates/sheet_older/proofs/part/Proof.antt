@@ -21,10 +21,10 @@ use Rattle.sheet_older.proofs.part.Tie as tie
 abbrev onward : Bool → List Ring → List Ring
 onward first l = cond first (turn_polygon l) (map inward l)
 
-abbrev invariant_loop : tie.invariant_loop
+abbrev invariant_loop : tie.invariant-loop-left
 invariant_loop numbers₀ at here₀ left₀ first₀ numbers here left first = Going ring_numbers turn_polygon (onward first) RingLimits numbers₀ at numbers here left
 
-abbrev decreases_loop : tie.decreases_loop
+abbrev decreases_loop : tie.decreases-loop-left
 decreases_loop numbers₀ at here₀ left₀ first₀ numbers here left first = left
 
 one : (first : Bool) (r : Ring) (l : List Ring) → onward first (r ∷ l) ≡ turn_ring first r ∷ onward false l
@@ -39,14 +39,14 @@ none false = refl
 count : (c : tie.Start invariant_loop decreases_loop) → let a = c.args in (a.at < length a.numbers.now) × (get_or a.numbers.now a.at 0 ≡ length c.requires.thing + 10_000_000)
 count c = place_count ring_numbers c.requires
 
-loop_holds : tie.Need-loop-init invariant_loop decreases_loop
-loop_holds c = let s = c.before.before in going_begin ring_numbers turn_polygon RingLimits s.args.numbers.now s.args.at s.requires.held
+loop_holds : tie.Need-loop-left-init invariant_loop decreases_loop
+loop_holds c = let s = c in going_begin ring_numbers turn_polygon RingLimits s.args.numbers.now s.args.at s.requires.held
 
-ring_requires : tie.Need-ring-requires invariant_loop decreases_loop
-ring_requires c κs = going_place c.before.before.loop.invariant c.before.before.before.before.before.requires (omega arith)
+ring_requires : tie.Need-ring-here-requires invariant_loop decreases_loop
+ring_requires c κs = going_place c.loop-left.invariant c.requires (omega arith)
 
-loop_again : tie.Need-loop-preserved invariant_loop decreases_loop
-loop_again c = let l = c.before.before.before.before.before.loop in going_more l.invariant (one l.first) (omega arith) c.before.before.ring.ensures
+loop_again : tie.Need-loop-left-preserved invariant_loop decreases_loop
+loop_again c = let l = c.loop-left in going_more l.invariant (one l.first) (omega arith) c.ring-here.ensures
 
 pub part_spec : {M : Type 1} → statement M
 part_spec =
@@ -63,5 +63,5 @@ part_spec =
     (λ c. omega arith)
     (λ c. omega arith)
     loop_again
-    (λ c. c.before.loop.invariant.long)
-    (λ c. going_done c.before.loop.invariant (none c.before.loop.first) polygon_length (omega arith)))
+    (λ c. c.loop-left.invariant.long)
+    (λ c. going_done c.loop-left.invariant (none c.loop-left.first) polygon_length (omega arith)))

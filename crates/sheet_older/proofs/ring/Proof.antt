@@ -19,8 +19,8 @@ use Rattle.sheet_older.proofs.ring.Statement.{statement}
 use Rattle.sheet_older.proofs.ring.Tie as tie
 
 -- ---- places
-abbrev start : tie.After-wrong-way → tie.Start
-start c = c.before.before.before.before
+abbrev start : tie.After-wrong_way → tie.Start
+start c = c.before.before.before
 
 -- ---- what stands there
 -- The count of the ring's points.
@@ -28,24 +28,24 @@ count : (c : tie.Start) → let a = c.args in
     (a.at < length a.numbers.now) × (get_or a.numbers.now a.at 0 ≡ length c.requires.thing + 10_000_000) × (length c.requires.thing ≤ 4096)
 count c = let w = place_count point_numbers c.requires in (w.0, w.1, c.requires.fits.high)
 
-sum_requires : tie.Need-sum-requires
-sum_requires c κs = let p = c.before.before.requires in (p.thing, p.rest, ring_at p.thing p.rest p.held p.fits p.stands)
+sum_requires : tie.Need-sum-area-requires
+sum_requires c κs = let p = c.requires in (p.thing, p.rest, ring_at p.thing p.rest p.held p.fits p.stands)
 
 -- What was summed up is the double area of whichever ring stands there.
-area : (c : tie.After-wrong-way) → let a = (start c).args in (r : Ring) (rest : List ℤ) → RingAt a.numbers.now a.at r rest → to_z w64 (of_z w64 c.before.sum.result) ≡ ring_area r
-area c r rest w = returned c.before.sum.result c.before.sum.type-inv ∙ (c.before.sum.ensures r rest w).0
+area : (c : tie.After-wrong_way) → let a = (start c).args in (r : Ring) (rest : List ℤ) → RingAt a.numbers.now a.at r rest → to_z w64 (of_z w64 c.sum-area.result) ≡ ring_area r
+area c r rest w = returned c.sum-area.result c.sum-area.type_inv ∙ (c.sum-area.ensures r rest w).0
 
-returns : tie.Need-returns
+returns : tie.Need-returns-then-wrong_way
 returns c =
     let w = c.before.before.before.before.before in
     let s = start w in
-    way_turned s.args.first s.pre.held (area w) (sym w.wrong-way.ensures ∙ c.before.before.before.before.if1.true) c.before.before.turn-round.ensures
+    way_turned s.args.first s.requires.held (area w) (sym w.wrong_way.ensures ∙ c.if-wrong_way.true) c.turn_round.ensures
 
-returns_2 : tie.Need-returns-2
+returns_2 : tie.Need-returns
 returns_2 c =
     let w = c.before.before in
     let s = start w in
-    way_stays s.args.first s.pre.held (area w) (sym w.wrong-way.ensures ∙ c.before.if1.false)
+    way_stays s.args.first s.requires.held (area w) (sym w.wrong_way.ensures ∙ c.if-wrong_way.false)
 
 pub ring_spec : {M : Type 1} → statement M
 ring_spec =

@@ -15,10 +15,10 @@ use Rattle.sheet_older.proofs.Sheets.{polygons_at, sheet_count, sheet_place, she
 use Rattle.sheet_older.proofs.turn.Statement.{statement}
 use Rattle.sheet_older.proofs.turn.Tie as tie
 
-abbrev invariant_loop : tie.invariant_loop
+abbrev invariant_loop : tie.invariant-loop-left
 invariant_loop numbers₀ at here₀ left₀ numbers here left = Going member_numbers (map turn_member) (map turn_member) (All (All RingLimits)) numbers₀ (polygons_at numbers₀) numbers here left
 
-abbrev decreases_loop : tie.decreases_loop
+abbrev decreases_loop : tie.decreases-loop-left
 decreases_loop numbers₀ at here₀ left₀ numbers here left = left
 
 -- The count of the table's pieces, and that of the polygons behind the table.
@@ -30,19 +30,19 @@ count c =
     let p = place_count member_numbers (sheet_place c.requires.2 c.requires.3) in
     (t.0, t.1, c.requires.2.few, p.0, omega arith)
 
-loop_holds : tie.Need-loop-init invariant_loop decreases_loop
-loop_holds c = let s = c.before.before.before in
+loop_holds : tie.Need-loop-left-init invariant_loop decreases_loop
+loop_holds c = let s = c in
     let numbers = s.args.numbers.now in going_begin member_numbers (map turn_member) (All (All RingLimits)) numbers (polygons_at numbers) s.requires.2.held
 
-polygon_requires : tie.Need-polygon-requires invariant_loop decreases_loop
-polygon_requires c κs = let p = c.before.before.before.before.before.before.requires in going_place c.before.before.loop.invariant (sheet_place p.2 p.3) (omega arith)
+polygon_requires : tie.Need-polygon-here-requires invariant_loop decreases_loop
+polygon_requires c κs = let p = c.requires in going_place c.loop-left.invariant (sheet_place p.2 p.3) (omega arith)
 
-loop_again : tie.Need-loop-preserved invariant_loop decreases_loop
-loop_again c = going_more c.before.before.before.before.before.loop.invariant (λ m l. refl) (omega arith) c.before.before.polygon.ensures
+loop_again : tie.Need-loop-left-preserved invariant_loop decreases_loop
+loop_again c = going_more c.loop-left.invariant (λ m l. refl) (omega arith) c.polygon-here.ensures
 
 returns : tie.Need-returns invariant_loop decreases_loop
 returns c =
-    let w = c.before.loop.invariant in
+    let w = c.loop-left.invariant in
     let t = going_done w refl (λ l. length-map l turn_member) (omega arith) in
     (λ limit n h fits. sheet_turned h fits t, w.long)
 
@@ -66,5 +66,5 @@ turn_spec =
     (λ c. omega arith)
     (λ c. omega arith)
     loop_again
-    (λ c. c.before.loop.invariant.long)
+    (λ c. c.loop-left.invariant.long)
     returns)

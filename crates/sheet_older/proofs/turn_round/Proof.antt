@@ -10,20 +10,20 @@ use Rattle.sheet_older.proofs.Round.{Turning, turning_begin, turning_room, turni
 use Rattle.sheet_older.proofs.turn_round.Statement.{statement}
 use Rattle.sheet_older.proofs.turn_round.Tie as tie
 
-abbrev invariant_loop : tie.invariant_loop
+abbrev invariant_loop : tie.invariant-loop-i
 invariant_loop numbers₀ at next i₀ j₀ numbers i j = Turning numbers₀ at numbers i j
 
-abbrev decreases_loop : tie.decreases_loop
+abbrev decreases_loop : tie.decreases-loop-i
 decreases_loop numbers₀ at next i₀ j₀ numbers i j = j - i
 
 -- ---- places
-abbrev start : tie.At-loop invariant_loop decreases_loop → tie.Start invariant_loop decreases_loop
+abbrev start : tie.At-loop-i invariant_loop decreases_loop → tie.Start invariant_loop decreases_loop
 start c = c.before.before.before
 
-abbrev between : tie.After-swap-arg2 invariant_loop decreases_loop → tie.In-loop invariant_loop decreases_loop
+abbrev between : tie.After-swap-arg-in-loop-i-1 invariant_loop decreases_loop → tie.In-loop-i invariant_loop decreases_loop
 between c = c.before.before.before.before.before
 
-abbrev second : tie.After-slice-known4 invariant_loop decreases_loop → tie.After-swap-arg2 invariant_loop decreases_loop
+abbrev second : tie.After-slice_known-in-loop-i-2-1 invariant_loop decreases_loop → tie.After-swap-arg-in-loop-i-1 invariant_loop decreases_loop
 second c = c.before.before.before
 
 -- ---- what stands there
@@ -33,17 +33,17 @@ count : (c : tie.Start invariant_loop decreases_loop) → let a = c.args in
 count c = let w = place_count point_numbers c.requires in (w.0, w.1, c.requires.fits.low, c.requires.fits.high)
 
 -- Both points that are exchanged.
-two : (c : tie.In-loop invariant_loop decreases_loop) → let l = c.before.loop in (l.i + 3 < length l.numbers) × (l.j + 1 < length l.numbers) × (l.i + 2 ≤ l.j)
-two c = let p = (start c.before).pre in turning_room c.before.loop.invariant p.front p.thing p.rest p.fits p.stands (omega arith)
+two : (c : tie.In-loop-i invariant_loop decreases_loop) → let l = c.loop-i in (l.i + 3 < length l.numbers) × (l.j + 1 < length l.numbers) × (l.i + 2 ≤ l.j)
+two c = let p = (start c.before).requires in turning_room c.loop-i.invariant p.front p.thing p.rest p.fits p.stands (omega arith)
 
 -- After the first exchange there are as many numbers.
-same : (c : tie.After-swap-arg2 invariant_loop decreases_loop) → length c.before.before.before.swap.new.0 ≡ length (between c).before.loop.numbers
-same c = let l = (between c).before.loop in ap length c.before.before.before.swap.ensures ∙ swapped_length l.numbers l.i l.j
+same : (c : tie.After-swap-arg-in-loop-i-1 invariant_loop decreases_loop) → length c.swap.new.numbers ≡ length (between c).loop-i.numbers
+same c = let l = (between c).loop-i in ap length c.swap.ensures ∙ swapped_length l.numbers l.i l.j
 
-loop_again : tie.Need-loop-preserved invariant_loop decreases_loop
+loop_again : tie.Need-loop-i-preserved invariant_loop decreases_loop
 loop_again c =
     let t = two (between (second c)) in
-    rw (c.before.before.swap2.ensures, (second c).before.before.before.swap.ensures) (turning_more (between (second c)).before.loop.inv (omega arith) t.0 t.1)
+    rw (c.swap-in-loop-i.ensures, (second c).swap.ensures) (turning_more (between (second c)).loop-i.invariant (omega arith) t.0 t.1)
 
 pub turn_round_spec : {M : Type 1} → statement M
 turn_round_spec =
@@ -60,7 +60,7 @@ turn_round_spec =
     (λ c. omega (arith, count c.before.before))
     (λ c. omega (arith, count c.before.before))
     (λ c. omega (arith, count c.before.before))
-    (λ c. turning_begin c.before.before.args.numbers.now c.before.before.args.at c.before.before.requires.held)
+    (λ c. turning_begin c.args.numbers.now c.args.at c.requires.held)
     (λ c κs. omega (arith, two c.before))
     (λ c. omega (arith, two (between c)))
     (λ c. omega (arith, two (between c)))
@@ -69,5 +69,5 @@ turn_round_spec =
     (λ c. omega (arith, two (between (second c))))
     (λ c. omega (arith, two (between (second c))))
     loop_again
-    (λ c. c.before.loop.invariant.long)
-    (λ c. turning_done c.before.loop.invariant (omega arith)))
+    (λ c. c.loop-i.invariant.long)
+    (λ c. turning_done c.loop-i.invariant (omega arith)))

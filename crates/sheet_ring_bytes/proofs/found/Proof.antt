@@ -31,116 +31,116 @@ told : {way : ℕ} {lengths opposite : List ℕ} {owners : List (List ℕ)} {len
 told {after = after} e f = sym e.answer ∙ ap (λ r. repair_of r after) f
 
 -- ---- places: the entry of the function, the call of `repair`, the owner numbers that it left
-abbrev start : tie.After-repair → tie.Start
+abbrev start : tie.After-repair-repaired → tie.Start
 start c = c.before.before.before.before.before.before.before
 
-abbrev call : tie.After-enum-told → tie.After-repair
-call c = c.before.before.before
+abbrev call : tie.In_default → tie.After-repair-repaired
+call c = c.before.before
 
-abbrev owners : tie.After-enum-told → List ℕ
-owners c = (call c).repair.new.1.1.1.1.0
+abbrev owners : tie.In_default → List ℕ
+owners c = (call c).repair-repaired.new.owners
 
-many : (c : tie.After-enum-told) → length (owners c) ≡ length (start (call c)).args.sets.now
-many c = as_many (call c).repair.ensures c.enum_told.given.1 ∙ length-map (start (call c)).args.sets.now owners_of
+many : (c : tie.In_default) → length (owners c) ≡ length (start (call c)).args.sets.now
+many c = as_many (call c).repair-repaired.ensures c.in_default.is ∙ length-map (start (call c)).args.sets.now owners_of
 
 -- There is room for as many sides as the largest table has.
 fits : (c : tie.Start) → length c.args.opposite.now ≤ 3072
 fits c = omega (arith, c.requires.0.sides, c.requires.1)
 
 -- ---- the call of `repair_sides::boundary`, the sides that it left, and the numbers of the boundary sides
-abbrev owned : tie.After-boundary → tie.After-enum-told
+abbrev owned : tie.After-boundary-k → tie.In_default
 owned c = c.before.before.before
 
-abbrev entry : tie.After-boundary → tie.Start
+abbrev entry : tie.After-boundary-k → tie.Start
 entry c = start (call (owned c))
 
-abbrev left : tie.After-boundary → List ℕ
-left c = c.boundary.new.1.1.1.0
+abbrev left : tie.After-boundary-k → List ℕ
+left c = c.boundary-k.new.sides
 
-abbrev sides : tie.After-boundary → List ℕ
+abbrev sides : tie.After-boundary-k → List ℕ
 sides c = let a = (entry c).args in boundary_numbers a.opposite.now (owners (owned c)) a.polygon
 
-laid : (c : tie.After-boundary) → (c.boundary.result ≤ length (left c)) × (take c.boundary.result (left c) ≡ sides c)
+laid : (c : tie.After-boundary-k) → (c.boundary-k.result ≤ length (left c)) × (take c.boundary-k.result (left c) ≡ sides c)
 laid c =
     let a = (entry c).args in
-    let l = front_laid c.boundary.ensures in
+    let l = front_laid c.boundary-k.ensures in
     (l.0, l.1 ∙ ap (λ o. boundary_numbers a.opposite.now o a.polygon) (front (owners (owned c)) _ _ (many (owned c))))
 
 -- They stand at the front of the work list, and there is room for as many in the lent ones.
-sides_room : (c : tie.After-boundary) (rest : List ℕ) → c.boundary.result ≤ length (left c ++ rest)
+sides_room : (c : tie.After-boundary-k) (rest : List ℕ) → c.boundary-k.result ≤ length (left c ++ rest)
 sides_room c rest = omega (arith, length-append (left c) rest, (laid c).0)
 
-sides_front : (c : tie.After-boundary) (rest : List ℕ) → take c.boundary.result (left c ++ rest) ≡ sides c
+sides_front : (c : tie.After-boundary-k) (rest : List ℕ) → take c.boundary-k.result (left c ++ rest) ≡ sides c
 sides_front c rest = take-append-le _ (left c) rest (laid c).0 ∙ (laid c).1
 
-sides_many : (c : tie.After-boundary) (rest : List ℕ) → length (take c.boundary.result (left c ++ rest)) ≡ c.boundary.result
+sides_many : (c : tie.After-boundary-k) (rest : List ℕ) → length (take c.boundary-k.result (left c ++ rest)) ≡ c.boundary-k.result
 sides_many c rest = length-take-le _ _ (sides_room c rest)
 
-few : (c : tie.After-boundary) → c.boundary.result ≤ 3072
-few c = omega (arith, (laid c).0, c.boundary.auto.1.1.1.0 ∙ length-take-le _ _ (fits (entry c)), fits (entry c))
+few : (c : tie.After-boundary-k) → c.boundary-k.result ≤ 3072
+few c = omega (arith, (laid c).0, c.boundary-k.auto.sides ∙ length-take-le _ _ (fits (entry c)), fits (entry c))
 
-order_room : (c : tie.After-boundary) → c.boundary.result ≤ length (entry c).args.order.now
+order_room : (c : tie.After-boundary-k) → c.boundary-k.result ≤ length (entry c).args.order.now
 order_room c = omega (arith, few c, (entry c).requires.3)
 
-ends_room : (c : tie.After-boundary) → c.boundary.result ≤ length (entry c).args.ends.now
+ends_room : (c : tie.After-boundary-k) → c.boundary-k.result ≤ length (entry c).args.ends.now
 ends_room c = omega (arith, few c, (entry c).requires.4)
 
 -- ---- the call of `repair_ring_walk::rings`, and the rings
-abbrev bounded : tie.After-rings → tie.After-boundary
+abbrev bounded : tie.After-rings-r → tie.After-boundary-k
 bounded c = c.before.before.before.before.before.before
 
-abbrev polygons : tie.After-rings → List (List ℕ)
+abbrev polygons : tie.After-rings-r → List (List ℕ)
 polygons c = let b = bounded c in let a = (entry b).args in polygon_rings a.opposite.now (owners (owned b)) a.polygon
 
-down : (c : tie.After-rings) → let b = bounded c in let a = (entry b).args in
-    RingsDown (polygons c) (take b.boundary.result a.order.now) (take b.boundary.result a.ends.now) c.rings.result c.rings.new.1.1.1.1.0 c.rings.new.1.1.1.1.1.0
+down : (c : tie.After-rings-r) → let b = bounded c in let a = (entry b).args in
+    RingsDown (polygons c) (take b.boundary-k.result a.order.now) (take b.boundary-k.result a.ends.now) c.rings-r.result c.rings-r.new.order c.rings-r.new.ends
 down c =
     let b = bounded c in
     let a = (entry b).args in
-    let n = b.boundary.result in
-    subst (λ m. RingsDown m (take n a.order.now) (take n a.ends.now) c.rings.result c.rings.new.1.1.1.1.0 c.rings.new.1.1.1.1.1.0)
-    (ap₂ (λ l o. ring_numbers (length l) (follower a.opposite.now o a.polygon) [] l) (sides_front b _) (front (owners (owned b)) _ _ (many (owned b)))) c.rings.ensures
+    let n = b.boundary-k.result in
+    subst (λ m. RingsDown m (take n a.order.now) (take n a.ends.now) c.rings-r.result c.rings-r.new.order c.rings-r.new.ends)
+    (ap₂ (λ l o. ring_numbers (length l) (follower a.opposite.now o a.polygon) [] l) (sides_front b _) (front (owners (owned b)) _ _ (many (owned b)))) c.rings-r.ensures
 
-few_rings : (c : tie.After-rings) → c.rings.result ≤ 3072
+few_rings : (c : tie.After-rings-r) → c.rings-r.result ≤ 3072
 few_rings c =
     let b = bounded c in
-    let e = c.rings.new.1.1.1.1.1.0 in
-    omega (arith, (standing (down c) [] []).ends_room, length-append e [], c.rings.auto.1.1.1.1.1.0 ∙ length-take-le _ _ (ends_room b), few b)
+    let e = c.rings-r.new.ends in
+    omega (arith, (standing (down c) [] []).ends_room, length-append e [], c.rings-r.auto.ends ∙ length-take-le _ _ (ends_room b), few b)
 
 -- What repair comes to.
-repaired : (c : tie.After-rings) → let b = bounded c in let a = (entry b).args in
+repaired : (c : tie.After-rings-r) → let b = bounded c in let a = (entry b).args in
     repaired_by a.way (lengths_held a.numbers.now (length a.opposite.now)) a.opposite.now (map owners_of a.sets.now) ≡ value (owners (owned b))
-repaired c = let b = owned (bounded c) in told (call b).repair.ensures b.enum_told.given.1
+repaired c = let b = owned (bounded c) in told (call b).repair-repaired.ensures b.in_default.is
 
 -- ---- the needs
-repair_requires : tie.Need-repair-requires
-repair_requires c κs = let p = c.before.before.before.before.before.before.requires in (p.0, length-take-le _ _ (omega (arith, p.1)), p.1, p.2)
+repair_requires : tie.Need-repair-repaired-requires
+repair_requires c κs = let p = c.requires in (p.0, length-take-le _ _ (omega (arith, p.1)), p.1, p.2)
 
-boundary_requires : tie.Need-boundary-requires
+boundary_requires : tie.Need-boundary-k-requires
 boundary_requires c κs =
     let e = c.before.before in
     let s = start (call e) in
-    (subst (Paired s.args.opposite.now) (sym (ap length (front (owners e) _ _ (many e)) ∙ many e)) s.pre.0, length-take-le _ _ (fits s))
+    (subst (Paired s.args.opposite.now) (sym (ap length (front (owners e) _ _ (many e)) ∙ many e)) s.requires.0, length-take-le _ _ (fits s))
 
-rings_requires : tie.Need-rings-requires
+rings_requires : tie.Need-rings-r-requires
 rings_requires c κs =
     let b = c.before.before.before.before.before in
     let e = owned b in
     let s = entry b in
     let a = s.args in
     let long = ap length (front (owners e) _ _ (many e)) ∙ many e in (
-      subst (Paired a.opposite.now) (sym long) s.pre.0,
-      omega (arith, long, s.pre.1),
+      subst (Paired a.opposite.now) (sym long) s.requires.0,
+      omega (arith, long, s.requires.1),
       subst (All (λ k. k < length a.opposite.now)) (sym (sides_front b _)) (bounding_below a.opposite.now (owners e) a.polygon),
       length-take-le _ _ (order_room b) ∙ sym (sides_many b _),
       length-take-le _ _ (ends_room b) ∙ sym (sides_many b _),
     )
 
-returns_2 : tie.Need-returns-2
-returns_2 c = let r = c.before.before.before.before.before in (owners (owned (bounded r)), repaired r, standing_none (down r) _ _ c.if1.true)
+returns_2 : tie.Need-returns-then-r-eq0
+returns_2 c = let r = c.before.before.before.before.before in (owners (owned (bounded r)), repaired r, standing_none (down r) _ _ c.if-r-eq0.true)
 
-returns_3 : tie.Need-returns-3
-returns_3 c = let r = c.before.before.before.before.before.before in (owners (owned (bounded r)), repaired r, standing_ended (down r) _ _ (omega (arith, c.before.if1.false)))
+returns_3 : tie.Need-returns
+returns_3 c = let r = c.before.before.before.before.before.before in (owners (owned (bounded r)), repaired r, standing_ended (down r) _ _ (omega (arith, c.if-r-eq0.false)))
 
 pub found_spec : {M : Type 1} → statement M
 found_spec =
@@ -150,7 +150,7 @@ found_spec =
     (λ c. sym (length-take-le _ _ (omega arith)))
     repair_requires
     (λ c. search rules)
-    (λ c. let k = c.before in told k.before.before.before.repair.ensures k.repaired.given.1)
+    (λ c. let k = c in told k.repair-repaired.ensures k.in-Refused.is)
     (λ c. search rules)
     (λ c. room (owners c) _ _ (many c))
     (λ c. sym (length-take-le _ _ (room (owners c.before) _ _ (many c.before))))
@@ -171,7 +171,7 @@ found_spec =
     returns_2
     (λ c. search rules)
     (λ c. omega (arith, few_rings c.before.before.before.before.before))
-    (λ c. let r = c.before.before.before.before.before.before in omega (arith, (standing (down r) [] (drop (bounded r).boundary.result (entry (bounded r)).args.ends.now)).ends_room, c.before.if1.false))
+    (λ c. let r = c.before.before.before.before.before.before in omega (arith, (standing (down r) [] (drop (bounded r).boundary-k.result (entry (bounded r)).args.ends.now)).ends_room, c.if-r-eq0.false))
     (λ c. search rules)
     (λ c. search rules)
     returns_3)

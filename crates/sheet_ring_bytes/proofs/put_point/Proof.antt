@@ -27,8 +27,8 @@ both o to x y {v} {w} e f g h =
 returns : tie.Need-returns
 returns c =
     let y = c.before.before in
-    let x = y.before.before.before.before.before.before in
-    both _ _ _ _ x.before.pattern.ensures y.before.pattern2.ensures x.put.ensures y.put2.ensures
+    let x = y in
+    both _ _ _ _ x.pattern.ensures y.pattern-2.ensures x.put.ensures y.put-2.ensures
 
 pub put_point_spec : {M : Type 1} → statement M
 put_point_spec =

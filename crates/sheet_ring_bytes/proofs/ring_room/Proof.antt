@@ -22,10 +22,10 @@ abbrev start : tie.After-found → tie.Start
 start c = c.before.before.before.before.before.before
 
 abbrev order : tie.After-found → List ℕ
-order c = c.found.new.1.1.1.1.1.0
+order c = c.found.new.order
 
 abbrev ends : tie.After-found → List ℕ
-ends c = c.found.new.1.1.1.1.1.1.0
+ends c = c.found.new.ends
 
 -- What repair comes to, the rings of owner numbers, and what is answered of it.
 abbrev comes : tie.Start → Answer (List ℕ)
@@ -38,32 +38,32 @@ answered : (s : tie.Start) {a : Answer (List ℕ)} → comes s ≡ a → let nex
 answered s e = ap (λ a. answer_of (and_then a (λ l. room_outcome (map (line_held s.args.numbers.now) (rings_of s l)))) []) e
 
 -- ---- the rings, k sides in r rings
-abbrev call : tie.After-k → tie.After-found
-call c = c.before.before.before.before
+abbrev call : tie.In-Rings → tie.After-found
+call c = c.before.before.before
 
-joined : (c : tie.After-k) → (l : List ℕ) × (comes (start (call c)) ≡ value l) × Standing (rings_of (start (call c)) l) c.k.given.0.0 c.k.given.0.1.0 (order (call c)) (ends (call c))
-joined c = let f = call c in subst (λ x. JoinedBy (comes (start f)) (rings_of (start f)) x (order f) (ends f)) c.k.given.1 f.found.ensures
+joined : (c : tie.In-Rings) → (l : List ℕ) × (comes (start (call c)) ≡ value l) × Standing (rings_of (start (call c)) l) c.in-Rings.k c.in-Rings.r (order (call c)) (ends (call c))
+joined c = let f = call c in subst (λ x. JoinedBy (comes (start f)) (rings_of (start f)) x (order f) (ends f)) c.in-Rings.is f.found.ensures
 
-few : (c : tie.After-k) → (c.k.given.0.0 ≤ 3072) × (c.k.given.0.1.0 ≤ 3072)
+few : (c : tie.In-Rings) → (c.in-Rings.k ≤ 3072) × (c.in-Rings.r ≤ 3072)
 few c =
     let f = (call c).found.auto in
     let s = (joined c).2 in
-    (omega (arith, s.order_room, f.1.1.1.1.1.0 ∙ length-replicate {A = ℕ} 3072 0), omega (arith, s.ends_room, f.1.1.1.1.1.1.0 ∙ length-replicate {A = ℕ} 3072 0))
+    (omega (arith, s.order_room, f.order ∙ length-replicate {A = ℕ} 3072 0), omega (arith, s.ends_room, f.ends ∙ length-replicate {A = ℕ} 3072 0))
 
 -- ---- the needs
-returns : tie.Need-returns
+returns : tie.Need-returns-in-Refused
 returns c =
-    let g = c.before in
-    let f = g.before.before.before.before in
+    let g = c in
+    let f = g.before.before.before in
     let s = start f in
-    sym (answered s {a = refused _ _} (subst (λ x. JoinedBy (comes s) (rings_of s) x (order f) (ends f)) g.code.given.1 f.found.ensures))
+    sym (answered s {a = refused _ _} (subst (λ x. JoinedBy (comes s) (rings_of s) x (order f) (ends f)) g.in-Refused.is f.found.ensures))
 
-returns_2 : tie.Need-returns-2
+returns_2 : tie.Need-returns-in-Rings
 returns_2 c =
-    let g = c.before.before in
+    let g = c.before in
     let s = start (call g) in
     let (l, e, stand) = joined g in
-    ap (λ n. n * 256) (c.room.ensures ∙ sym (standing_room s.args.numbers.now (s.pre.3 l e) stand)) ∙ sym (answered s e)
+    ap (λ n. n * 256) (c.room.ensures ∙ sym (standing_room s.args.numbers.now (s.requires.3 l e) stand)) ∙ sym (answered s e)
 
 pub ring_room_spec : {M : Type 1} → statement M
 ring_room_spec =
@@ -78,7 +78,7 @@ ring_room_spec =
     (λ c. search rules)
     (λ c. search rules)
     (λ c. search rules)
-    (λ c κs. let (sides, rings) = few c.before in (omega (arith, sides, rings), omega (arith, sides, rings)))
-    (λ c. omega (arith, c.room.ensures, few c.before.before))
+    (λ c κs. let (sides, rings) = few c in (omega (arith, sides, rings), omega (arith, sides, rings)))
+    (λ c. omega (arith, c.room.ensures, few c.before))
     returns
     returns_2)

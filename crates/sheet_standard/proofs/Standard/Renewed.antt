@@ -22,8 +22,8 @@ use Rattle.sheet_standard.proofs.Standard.Levels.{own_open, second}
 use Rattle.sheet_standard.proofs.Standard.Entered.{vacant}
 
 -- ---- a complete member gives way to the next
-up_to : (limit n : ℕ) → n ≤ up_to limit n
-up_to limit n = by_equal (λ (m : ℕ). n ≤ m) (ltb n limit) _ _ (λ e. omega arith) (λ e. omega arith)
+no_less : (limit n : ℕ) → n ≤ up_to limit n
+no_less limit n = by_equal (λ (m : ℕ). n ≤ m) (ltb n limit) _ _ (λ e. omega arith) (λ e. omega arith)
 
 -- The place of the next member.
 abbrev next_member : Cursor → Cursor
@@ -37,7 +37,7 @@ renew_good s c b r = by_equal (λ (d : Cursor). Good s d b) (complete c && ltb 0
     record {
       raw = record {
         within = r.within;
-        member = omega (arith, r.member, up_to c.limit c.member);
+        member = omega (arith, r.member, no_less c.limit c.member);
         many = omega arith;
         total = r.total;
         own = λ f. (h.no_points, h.no_rings, h.no_parts, h.no_fourth, h.no_third, h.no_second, refl);

@@ -58,7 +58,7 @@ module _ {high : ℕ} {s : List ℕ} (c : Cursor) {b : Taken} {ps : List Pair} {
       record {
         fits = q.fits;
         goes = ring_goes s c b n _ (sym h.points_number) (omega arith) q allowed;
-        polygon = record { points_number = refl; rings_number = omega arith; bytes = q.next; points_fit = f.points; closes = closed_is _ ps refl f.closed; rings_fit = h.rings_fit.1 };
+        polygon = record { points_number = refl; rings_number = omega arith; bytes = q.next; points_fit = f.points; closes = closed_is (ringing c n b) ps refl f.closed; rings_fit = h.rings_fit.1 };
       }
 
   pub ring_before : (k : RingRead s c b) → c.points ≡ 0 → 0 < c.rings → FromTo 4 high k.n → {d : Cursor} {b' : Taken} → with_points k.n c ≡ d → ringing c k.n b ≡ b'
@@ -71,7 +71,7 @@ module _ {high : ℕ} {s : List ℕ} (c : Cursor) {b : Taken} {ps : List Pair} {
       let count = bytes_of c.little 4 k.n in
       let bytes : drop c.at s ≡ flat_map (encode_ring c.little) (ps ∷ rs) ++ rest =
       k.bytes ∙ ap (λ l. count ++ l) h.bytes ∙ rw n (sym (regroup count (flat_map (encode_point c.little) ps) (flat_map (encode_ring c.little) rs) rest)) in
-      no_ring z (omega arith) bytes (record { number = (omega (arith, f.0), omega (arith, f.1)); points = h.points_fit; closed = is_closed _ ps refl h.closes }, h.rings_fit)
+      no_ring z (omega arith) bytes (record { number = (omega (arith, f.0), omega (arith, f.1)); points = h.points_fit; closed = is_closed (ringing c k.n b) ps refl h.closes }, h.rings_fit)
 
 -- ---- under a member
 abbrev with_ring : ℕ → Taken → Taken

@@ -23,9 +23,9 @@ use Rattle.sheet_standard.proofs.Standard.Left.{Ends, millimetres_count, no_poly
 use Rattle.sheet_standard.proofs.Standard.Points.{passed, with_point, PointPassed, point_passed, point_before}
 use Rattle.sheet_standard.proofs.Standard.Table.{InTable, TableStands, Unfinished, still_in, members_outcome, table_outcome, TableFound, TableThrough, TableBack, after_through, after_back}
 
-and-false : (t : Bool) → (t && false) ≡ false
-and-false true = refl
-and-false false = refl
+and_false : (t : Bool) → (t && false) ≡ false
+and_false true = refl
+and_false false = refl
 
 last_false : (c : Cursor) → (c.parts ≡ 0 → c.rings ≡ 0 → c.points ≡ 1 → ⊥) → last_of_table c ≡ false
 last_false c h = go (eqb c.member 1) (eqb c.parts 0) (eqb c.rings 0) (eqb c.points 1) refl refl refl
@@ -40,7 +40,7 @@ last_false c h = go (eqb c.member 1) (eqb c.parts 0) (eqb c.rings 0) (eqb c.poin
 -- What a point adds in the table: itself, if it is not the last of its ring; nothing, if it is, and more comes; the number of members at the end.
 pointing_more : (c : Cursor) (x y : ℕ) (b : Taken) → (c.points ≡ 1 → ⊥) → pointing c x y b ≡ with_point x y b
 unfolding pointing
-pointing_more c x y b h = rw (last_false c (λ p r k. h k), ne_eqb c.points 1 h, and-false (eqb c.member 1)) refl
+pointing_more c x y b h = rw (last_false c (λ p r k. h k), ne_eqb c.points 1 h, and_false (eqb c.member 1)) refl
 
 pointing_closing : (c : Cursor) (x y : ℕ) (b : Taken) → c.member ≡ 1 → c.points ≡ 1 → (c.parts ≡ 0 → c.rings ≡ 0 → ⊥) → pointing c x y b ≡ noted x y b
 unfolding pointing

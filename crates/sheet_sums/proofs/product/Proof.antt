@@ -18,21 +18,21 @@ module _ (c : tie.Start) where
   all : Within 400_000_000_000_000 (pos c.args.x *ℤ (pos c.args.after -ℤ pos c.args.before))
   all = within_mul 20_000_000 20_000_000 (pos c.args.x) (pos c.args.after -ℤ pos c.args.before) (record { size = c.requires.0 }) gap
 
-cast_result : tie.Need-overflow-cast-result
+cast_result : tie.Need-overflow_cast-result
 cast_result c = search rules
 
-cast_result_2 : tie.Need-overflow-cast-result-2
+cast_result_2 : tie.Need-overflow_cast-result-2
 cast_result_2 c = search rules
 
-cast_result_3 : tie.Need-overflow-cast-result-3
+cast_result_3 : tie.Need-overflow_cast-result-3
 cast_result_3 c = search rules
 
-sub_result : tie.Need-overflow-sub-result
+sub_result : tie.Need-overflow_sub-result
 sub_result c =
     let a = c.args in
     rw (to_z_pos w64 a.after (omega arith), to_z_pos w64 a.before (omega arith)) (within_fits 20_000_000 _ (lit< tt) (gap c))
 
-mul_result : tie.Need-overflow-mul-result
+mul_result : tie.Need-overflow_mul-result
 mul_result c =
     let a = c.args in
     rw (to_z_pos w64 a.x (omega arith), to_z_pos w64 a.after (omega arith), to_z_pos w64 a.before (omega arith), exact 20_000_000 (pos a.after -ℤ pos a.before) (lit< tt) (gap c))

@@ -38,10 +38,10 @@ abbrev μ-things : Measures 2 things-kinds.ps ℕ
 μ-things κs a = 2 * a.1.1.1.0 + 1
 
 -- ---- the loop of `things`: the things behind, with those to come, are all of them
-abbrev invariant_loop : things-lts.invariant-loop
+abbrev invariant_loop : things-lts.invariant-loop-i
 invariant_loop numbers out₀ level n v₀ i₀ out v i = Between (emit level) (numbers_in numbers) n v₀ out₀ i v out
 
-abbrev decreases_loop : things-lts.decreases-loop
+abbrev decreases_loop : things-lts.decreases-loop-i
 decreases_loop numbers out₀ level n v₀ i₀ out v i = n - i
 
 -- ---- the measure is t: each may assume the other's contract below t
@@ -78,13 +78,13 @@ module _ (t : ℕ) where
   Start = thing-lts.Start thing_claims thing_at thing.Post
 
   abbrev Else2 : Type 0
-  Else2 = thing-lts.Else2 thing_claims thing_at thing.Post
+  Else2 = thing-lts.Else-numbers-w thing_claims thing_at thing.Post
 
   abbrev After-bits : Type 0
-  After-bits = thing-lts.After-bits thing_claims thing_at thing.Post
+  After-bits = thing-lts.After-bits-n thing_claims thing_at thing.Post
 
   abbrev Else3 : Type 0
-  Else3 = thing-lts.Else3 thing_claims thing_at thing.Post
+  Else3 = thing-lts.Else-not-count_fits thing_claims thing_at thing.Post
 
   abbrev After-closes : Type 0
   After-closes = thing-lts.After-closes thing_claims thing_at thing.Post
@@ -100,65 +100,65 @@ module _ (t : ℕ) where
 
   -- What stands at these places: a number, which is the count, and which is within its limits.
   enough : (c : Else2) → 4 * (start c).args.w.at + 4 ≤ length (start c).args.numbers.now
-  enough c = omega (arith, numbers_length (start c).args.numbers.now, (start c).requires.1.at_most, c.if2.false)
+  enough c = omega (arith, numbers_length (start c).args.numbers.now, (start c).requires.1.at_most, c.if-numbers-w.false)
 
-  counted : (c : After-bits) → let a = (start c.before).args in Counted a.numbers.now a.w a.level c.bits.result
-  counted c = record { fair = (start c.before).pre.1; no_point = c.before.before.before.if1.false; enough = enough c.before; is = c.bits.ensures }
+  counted : (c : After-bits) → let a = (start c.before).args in Counted a.numbers.now a.w a.level c.bits-n.result
+  counted c = record { fair = (start c.before).requires.1; no_point = c.if-level-eq0.false; enough = enough c.before; is = c.bits-n.ensures }
 
-  fits : (c : Else3) → let k = (start (count c).before).args.level in from_to (low k) (high k) (count c).bits.result ≡ true
-  fits c = sym c.before.count_fits.ensures ∙ not-false _ c.if3.false
+  fits : (c : Else3) → let k = (start (count c).before).args.level in from_to (low k) (high k) (count c).bits-n.result ≡ true
+  fits c = sym c.count_fits.ensures ∙ c.if-not-count_fits.false
 
   -- ---- the needs of `thing`
-  returns : thing-lts.Need-returns thing_claims thing_at thing.Post
-  returns c = let p = c.before.before in rw (emit_point_lem _ p.before.before.if1.true) p.point.ensures
+  returns : thing-lts.Need-returns-then-level-eq0 thing_claims thing_at thing.Post
+  returns c = let p = c in rw (emit_point_lem _ p.if-level-eq0.true) p.point.ensures
 
-  returns_2 : thing-lts.Need-returns-2 thing_claims thing_at thing.Post
-  returns_2 c = rw (emit_end _ _ _ c.before.before.before.if1.false c.before.if2.true) (c.wrong.ensures, refl)
+  returns_2 : thing-lts.Need-returns-then-numbers-w thing_claims thing_at thing.Post
+  returns_2 c = rw (emit_end _ _ _ c.if-level-eq0.false c.if-numbers-w.true) (c.wrong.ensures, refl)
 
-  returns_3 : thing-lts.Need-returns-3 thing_claims thing_at thing.Post
-  returns_3 c = let k = c.before.before in rw (miscounted (counted k.before) (sym k.count_fits.ensures ∙ not-true _ c.before.if3.true)) (c.wrong2.ensures, refl)
+  returns_3 : thing-lts.Need-returns-then-not-count_fits thing_claims thing_at thing.Post
+  returns_3 c = let k = c.before.before in rw (miscounted (counted k.before) (sym k.count_fits.ensures ∙ c.if-not-count_fits.true)) (c.wrong-then-not-count_fits.ensures, refl)
 
   closes_requires : thing-lts.Need-closes-requires thing_claims thing_at thing.Post
   closes_requires c κs = (behind_count (counted (count c.before)), fits c.before)
 
-  returns_4 : thing-lts.Need-returns-4 thing_claims thing_at thing.Post
+  returns_4 : thing-lts.Need-returns-then-not-closes thing_claims thing_at thing.Post
   returns_4 c =
       let k = c.before.before in
-      rw (left_open (counted (count (fitting k))) (sym k.closes.ensures ∙ not-true _ c.before.if4.true)) (c.wrong3.ensures, refl)
+      rw (left_open (counted (count (fitting k))) (sym k.closes.ensures ∙ c.if-not-closes.true)) (c.wrong-then-not-closes.ensures, refl)
 
-  head_requires : thing-lts.Need-head-requires thing_claims thing_at thing.Post
+  head_requires : thing-lts.Need-head-v-requires thing_claims thing_at thing.Post
   head_requires c κs = let f = (counted (count (fitting c.before.before))).fair in omega arith
 
   things_requires : thing-lts.Need-things-requires thing_claims thing_at thing.Post
   things_requires c κs =
       let h = c.before.before.before in
       let k = count (fitting h.before.before.before) in
-      (omega (arith, (start k.before).pre.0, (counted k).no_point), head_fair (counted k) h.head.result h.head.ensures.0)
+      (omega (arith, (start k.before).requires.0, (counted k).no_point), head_fair (counted k) h.head-v.result h.head-v.ensures.0)
 
-  returns_5 : thing-lts.Need-returns-5 thing_claims thing_at thing.Post
+  returns_5 : thing-lts.Need-returns thing_claims thing_at thing.Post
   returns_5 c =
       let d = c.before.before in
       let h = d.before.before.before.before in
       let k = h.before.before in
       let f = fitting k.before in
-      thing_goes (counted (count f)) (fits f) (sym k.before.closes.ensures ∙ not-false _ k.if4.false)
-      h.head.result _ h.head.new.0 h.head.ensures.0 h.head.ensures.1 d.things.result d.things.new.1.0 d.things.ensures
+      thing_goes (counted (count f)) (fits f) (sym k.closes.ensures ∙ k.if-not-closes.false)
+      h.head-v.result _ h.head-v.new.out h.head-v.ensures.0 h.head-v.ensures.1 d.things.result d.things.new.out d.things.ensures
 
   -- ---- the needs of `things`
-  thing_requires : things-lts.Need-thing-requires things_claims things_at things.Post invariant_loop decreases_loop
-  thing_requires c κs = let l = c.before.before in (omega (arith, l.before.before.before.requires.0), l.loop.invariant.fair)
+  thing_requires : things-lts.Need-thing-v-requires things_claims things_at things.Post invariant_loop decreases_loop
+  thing_requires c κs = let l = c in (omega (arith, l.requires.0), l.loop-i.invariant.fair)
 
-  stopped : things-lts.Need-returns things_claims things_at things.Post invariant_loop decreases_loop
+  stopped : things-lts.Need-returns-then-not-v things_claims things_at things.Post invariant_loop decreases_loop
   stopped c =
       let d = c.before.before.before.before in
-      let l = d.before.before in
-      stops l.before.loop.invariant d.thing.result d.thing.new.1.0 l.loop-test.true d.thing.ensures (not-true _ c.if1.true)
+      let l = d in
+      stops l.loop-i.invariant d.thing-v.result d.thing-v.new.out l.loop-i-test.true d.thing-v.ensures (not-true _ c.if-not-v.true)
 
-  loop_again : things-lts.Need-loop-preserved things_claims things_at things.Post invariant_loop decreases_loop
+  loop_again : things-lts.Need-loop-i-preserved things_claims things_at things.Post invariant_loop decreases_loop
   loop_again c =
       let d = c.before.before.before.before in
-      let l = d.before.before in
-      passes l.before.loop.invariant d.thing.result d.thing.new.1.0 l.loop-test.true d.thing.ensures (not-false _ c.if1.false)
+      let l = d in
+      passes l.loop-i.invariant d.thing-v.result d.thing-v.new.out l.loop-i-test.true d.thing-v.ensures (not-false _ c.if-not-v.false)
 
 pub +thing_things_spec : {M : Type 1} → statement M
 +thing_things_spec =
@@ -167,7 +167,7 @@ pub +thing_things_spec : {M : Type 1} → statement M
     (thing_claims t)
     (thing_at t)
     thing.Post
-    (λ c κs. c.before.before.before.before.requires.1)
+    (λ c κs. c.requires.1)
     (λ c. search rules)
     (returns t)
     (λ c κs. tt)
@@ -191,12 +191,12 @@ pub +thing_things_spec : {M : Type 1} → statement M
     things.Post
     invariant_loop
     decreases_loop
-    (λ c. begins c.before.before.requires.1)
+    (λ c. begins c.requires.1)
     (thing_requires t)
     (λ c. search rules)
     (stopped t)
     (λ c. search rules)
     (λ c. omega arith)
     (loop_again t)
-    (λ c. c.before.loop.invariant.long)
-    (λ c. ends c.before.loop.invariant c.loop-test.false))
+    (λ c. c.loop-i.invariant.long)
+    (λ c. ends c.loop-i.invariant c.loop-i-test.false))

@@ -8,7 +8,7 @@ use Rattle.sheet_writer.proofs.bits.Tie as tie
 
 returns : tie.Need-returns
 returns c =
-    let a = c.before.before.before.before.before.before.before.before.before.args in
+    let a = c.args in
     let e = four_bytes a.numbers.now (4 * a.i) (omega arith) in
     omega arith
 

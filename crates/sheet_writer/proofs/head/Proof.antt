@@ -1,7 +1,6 @@
 -- `sheet_writer::head` meets its contract: of the three runs of bytes that may stand before a level's things at most one is written, so that the three one
 -- behind the other are the heading. Assumes nothing.
 use mathlib.Core.Path.{◌≡◌, refl, sym, ap, ap₂, ◌∙◌, subst}
-use mathlib.Core.Logic.{⊎_elim}
 use mathlib.Core.Bool.{Bool, true, false, not, ◌&&◌, cond}
 use mathlib.Core.List.{List, [], ◌++◌, append-nil}
 use Prim.Native.Nat.{ℕ, ◌+◌, ◌≤◌, ◌<◌}
@@ -16,6 +15,7 @@ use Rattle.sheet_writer.specs.Emit.{heading}
 use Rattle.sheet_writer.proofs.Bytes.{Wrote, as_long, one_run, wrote_number, wrote_header}
 use Rattle.sheet_writer.proofs.head.Statement.{statement}
 use Rattle.sheet_writer.proofs.head.Tie as tie
+use Rattle.sheet_writer.proofs.head.Lts.{then-level-eq1, else-level-eq1, then-level-eq2, else-level-eq2, then-level-eq3+then-n-ne1, else-level-eq3, else-level-eq3-via-then-level-eq3+else-n-ne1, else-level-eq3-via-else-level-eq3}
 
 -- ---- a run that is written if a test holds
 yes : {t : Bool} {o l p : List ℕ} {k m : ℕ} → t ≡ true → Wrote o k l p m → Wrote o k (cond t l []) p m
@@ -52,43 +52,43 @@ heading_is level n = sym
     (λ e. ap (λ t. t && not (eqb n 1)) (other level 1 3 (omega arith) e)) (λ e. ap (λ t. t && not (eqb n 1)) (other level 2 3 (omega arith) e)))
 
 -- ---- places: the entry; behind the first run, the second and the third
-abbrev start : tie.Joined1 → tie.Start
+abbrev start : tie.Joined-level-eq1 → tie.Start
 start c = c.before.before
 
 -- What is written there, and the byte that is reached.
-first : (c : tie.Joined1) → let a = (start c).args in Wrote a.out.now a.w.to (ring a.level a.n) c.if1.out c.if1.to
+first : (c : tie.Joined-level-eq1) → let a = (start c).args in Wrote a.out.now a.w.to (ring a.level a.n) c.if-level-eq1.out c.if-level-eq1.to
 unfolding ordered
-first c = ⊎_elim
-    (λ p. yes (eq-eqb _ 1 p.0.taken) (wrote_number 4 _ (p.5 ∙ p.2.ensures) p.6))
-    (λ p. no _ (ne_eqb _ 1 p.0.left) p.2 p.1)
-    c.if1.branch
+first c = elim c.if-level-eq1.branch [
+  | then-level-eq1 w ↦ yes (eq-eqb _ 1 w.if-level-eq1.true) (wrote_number 4 _ (w.out-is ∙ w.put.ensures) w.to-is)
+  | else-level-eq1 w ↦ no _ (ne_eqb _ 1 w.if-level-eq1.false) w.to-is w.out-is
+]
 
-second : (c : tie.Joined2) → let j = c.before in let a = (start j).args in Wrote j.if1.out j.if1.to (part a.level a.n) c.if2.out c.if2.to
-second c = ⊎_elim
-    (λ p. yes (eq-eqb _ 2 p.0.taken) (wrote_header _ Polygon (p.6 ∙ p.2.ensures) p.7))
-    (λ p. no _ (ne_eqb _ 2 p.0.left) p.2 p.1)
-    c.if2.branch
+second : (c : tie.Joined-level-eq2) → let j = c.before in let a = (start j).args in Wrote j.if-level-eq1.out j.if-level-eq1.to (part a.level a.n) c.if-level-eq2.out c.if-level-eq2.to
+second c = elim c.if-level-eq2.branch [
+  | then-level-eq2 w ↦ yes (eq-eqb _ 2 w.if-level-eq2.true) (wrote_header _ Polygon (w.out-is ∙ w.header.ensures) w.to-is)
+  | else-level-eq2 w ↦ no _ (ne_eqb _ 2 w.if-level-eq2.false) w.to-is w.out-is
+]
 
-third : (c : tie.Joined3-2) → let j = c.before in let a = (start j.before).args in Wrote j.if2.out j.if2.to (member a.level a.n) c.if3.out c.if3.to
-third c = ⊎_elim
-    (λ p. yes (ap₂ (λ x y. x && y) (eq-eqb _ 3 p.0.taken) p.1.taken) (wrote_header _ MultiPolygon (p.7 ∙ p.3.ensures) p.8))
-    (λ p. no _
-    (⊎_elim
-    (λ q. ap₂ (λ x y. x && y) (eq-eqb _ 3 q.0.taken) q.1.left)
-    (λ q. ap (λ x. x && not (eqb (start c.before.before).args.n 1)) (ne_eqb _ 3 q.left))
-    p.0.came)
-    p.2 p.1)
-    c.if3.branch
+third : (c : tie.Joined-level-eq3) → let j = c.before in let a = (start j.before).args in Wrote j.if-level-eq2.out j.if-level-eq2.to (member a.level a.n) c.if-level-eq3.out c.if-level-eq3.to
+third c = elim c.if-level-eq3.branch [
+  | then-level-eq3+then-n-ne1 w ↦ yes (ap₂ (λ x y. x && y) (eq-eqb _ 3 w.if-level-eq3.true) (ap not (ne_eqb _ 1 w.if-n-ne1.true))) (wrote_header _ MultiPolygon (w.out-is ∙ w.header-then-n-ne1.ensures) w.to-is)
+  | else-level-eq3 w ↦ no _
+      (elim w.else-level-eq3.branch [
+        | else-level-eq3-via-then-level-eq3+else-n-ne1 q ↦ ap₂ (λ x y. x && y) (eq-eqb _ 3 q.if-level-eq3.true) (ap not (eq-eqb _ 1 q.if-n-ne1.false))
+        | else-level-eq3-via-else-level-eq3 q ↦ ap (λ x. x && not (eqb (start c.before.before).args.n 1)) (ne_eqb _ 3 q.if-level-eq3.false)
+      ])
+      w.to-is w.out-is
+]
 
-all : (c : tie.Joined3-2) → let a = (start c.before.before).args in Wrote a.out.now a.w.to (heading a.level a.n) c.if3.out c.if3.to
+all : (c : tie.Joined-level-eq3) → let a = (start c.before.before).args in Wrote a.out.now a.w.to (heading a.level a.n) c.if-level-eq3.out c.if-level-eq3.to
 all c = let a = (start c.before.before).args in rw (heading_is a.level a.n) (one_run (one_run (first c.before.before) (second c.before)) (third c))
 
 -- The byte that is reached is near.
-near : (c : tie.Joined1) → c.if1.to ≤ (start c).args.w.to + 4
-near c = ⊎_elim (λ p. omega (arith, p.6)) (λ p. omega (arith, p.2)) c.if1.branch
+near : (c : tie.Joined-level-eq1) → c.if-level-eq1.to ≤ (start c).args.w.to + 4
+near c = elim c.if-level-eq1.branch [ then-level-eq1 w ↦ omega (arith, w.to-is) | else-level-eq1 w ↦ omega (arith, w.to-is) ]
 
-near_2 : (c : tie.Joined2) → c.if2.to ≤ (start c.before).args.w.to + 13
-near_2 c = ⊎_elim (λ p. omega (arith, p.7, near c.before)) (λ p. omega (arith, p.2, near c.before)) c.if2.branch
+near_2 : (c : tie.Joined-level-eq2) → c.if-level-eq2.to ≤ (start c.before).args.w.to + 13
+near_2 c = elim c.if-level-eq2.branch [ then-level-eq2 w ↦ omega (arith, w.to-is, near c.before) | else-level-eq2 w ↦ omega (arith, w.to-is, near c.before) ]
 
 pub head_spec : {M : Type 1} → statement M
 head_spec =

@@ -17,7 +17,7 @@ unfolding header
 of_kind o p to kind n e f = f ∙ ap (λ t. sets o to (headed t n)) e
 
 returns : tie.Need-returns
-returns c = let p = c.before.before in of_kind _ _ _ _ _ p.before.number.ensures p.put.ensures
+returns c = let p = c in of_kind _ _ _ _ _ p.number.ensures p.put.ensures
 
 pub header_spec : {M : Type 1} → statement M
 header_spec =

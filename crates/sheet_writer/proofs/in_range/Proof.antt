@@ -8,4 +8,4 @@ use Rattle.sheet_writer.proofs.in_range.Tie as tie
 pub in_range_spec : {M : Type 1} → statement M
 in_range_spec =
     tie.close
-    (tie.spec (λ c. sym (in_range_low c.before.args.b (omega arith))) (λ c. sym (in_range_high c.before.args.b (omega arith) (omega arith))))
+    (tie.spec (λ c. sym (in_range_low c.args.b (omega arith))) (λ c. sym (in_range_high c.args.b (omega arith) (omega arith))))

@@ -27,38 +27,38 @@ same_bits s at j k h i a b p q u v e f x y =
     rw (number_behind s at j (omega arith), number_behind s at k (omega arith), ← p, ← q, ← e, ← f) (signed_same a b x y)
 
 -- ---- places: the entry, the ring's numbers, the bits of the first two
-abbrev start : tie.Else1 → tie.Start
+abbrev start : tie.Else-numbers-at → tie.Start
 start c = c.before.before
 
-abbrev there : tie.After-bits2 → tie.Else1
+abbrev there : tie.After-bits-2 → tie.Else-numbers-at
 there c = c.before.before
 
 -- What stands there: whether the first numbers of the ring's last and first points are the same.
-firsts : (c : tie.After-bits2) → let a = (start (there c)).args in let l = drop a.at (numbers_in a.numbers.now) in eq_z (get_or l (2 * a.n - 2) (pos 0)) (get_or l 0 (pos 0)) ≡ eqb c.before.bits.result c.bits2.result
+firsts : (c : tie.After-bits-2) → let a = (start (there c)).args in let l = drop a.at (numbers_in a.numbers.now) in eq_z (get_or l (2 * a.n - 2) (pos 0)) (get_or l 0 (pos 0)) ≡ eqb c.bits.result c.bits-2.result
 firsts c =
     let a = (start (there c)).args in
-    same_bits a.numbers.now a.at (2 * a.n - 2) 0 _ _ _ _ (omega arith) (omega arith) (omega arith) (omega arith) c.before.bits.ensures c.bits2.ensures (omega arith) (omega arith)
+    same_bits a.numbers.now a.at (2 * a.n - 2) 0 _ _ _ _ (omega arith) (omega arith) (omega arith) (omega arith) c.bits.ensures c.bits-2.ensures (omega arith) (omega arith)
 
 -- ---- the needs
-returns_3 : tie.Need-returns-3
+returns_3 : tie.Need-returns
 returns_3 c =
     let b = c.before.before.before in
     let a = (start (there b)).args in
-    let second = same_bits a.numbers.now a.at (2 * a.n - 1) 1 _ _ _ _ (omega arith) refl (omega arith) (omega arith) c.before.bits3.ensures c.bits4.ensures (omega arith) (omega arith) in
-    rw (left _ _, le-leb _ _ (there b).if1.false, firsts b, eq-eqb _ _ c.before.before.if2.false, second) refl
+    let second = same_bits a.numbers.now a.at (2 * a.n - 1) 1 _ _ _ _ (omega arith) refl (omega arith) (omega arith) c.bits-3.ensures c.bits-4.ensures (omega arith) (omega arith) in
+    rw (left _ _, le-leb _ _ (there b).if-numbers-at.false, firsts b, eq-eqb _ _ c.if-bits.false, second) refl
 
 pub ring_closes_spec : {M : Type 1} → statement M
 ring_closes_spec =
     tie.close
     (tie.spec
     (λ c. search rules)
-    (λ c. omega (arith, numbers_length c.before.args.numbers.now))
-    (λ c. rw (left _ _, lt-leb _ _ c.if1.true) refl)
+    (λ c. omega (arith, numbers_length c.args.numbers.now))
+    (λ c. rw (left _ _, lt-leb _ _ c.if-numbers-at.true) refl)
     (λ c. search rules)
     (λ c. search rules)
     (λ c κs. search rules)
     (λ c κs. search rules)
-    (λ c. let b = c.before in rw (left _ _, le-leb _ _ (there b).if1.false, firsts b, ne_eqb _ _ c.if2.true) refl)
+    (λ c. let b = c.before in rw (left _ _, le-leb _ _ (there b).if-numbers-at.false, firsts b, ne_eqb _ _ c.if-bits.true) refl)
     (λ c. search rules)
     (λ c. search rules)
     (λ c κs. search rules)

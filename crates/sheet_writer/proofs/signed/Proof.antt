@@ -17,12 +17,12 @@ use Rattle.sheet_writer.proofs.signed.Tie as tie
 above : (b : ℕ) → 2 ^ 31 ≤ b → b < 2 ^ 32 → pos b -ℤ pos (2 ^ 32) ≡ to_z w32 b
 above b h k = rw (lt-ltb b (2 ^ 32) k, le-ltb b (2 ^ 31) h) refl
 
-near : (c : tie.Else1) → Within 4294967296 (pos c.before.args.b -ℤ pos 4294967296)
-near c = within_gap 4294967296 4294967296 c.before.args.b (omega arith) (omega arith)
+near : (c : tie.Else-b-lt2147483648) → Within 4294967296 (pos c.args.b -ℤ pos 4294967296)
+near c = within_gap 4294967296 4294967296 c.args.b (omega arith) (omega arith)
 
-returns_2 : tie.Need-returns-2
+returns_2 : tie.Need-returns
 returns_2 c =
-    let b = c.before.args.b in
+    let b = c.args.b in
     rw (to_z_pos w64 b (omega arith), exact 4294967296 (pos b -ℤ pos 4294967296) (lit< tt) (near c)) (above b (omega arith) (omega arith), near c)
 
 pub signed_spec : {M : Type 1} → statement M
@@ -30,7 +30,7 @@ signed_spec =
     tie.close
     (tie.spec
     (λ c. search rules)
-    (λ c. rw (to_z_pos w64 c.before.args.b (omega arith), to_z_pos w32 c.before.args.b (omega arith)) (refl, record { size = omega arith }))
+    (λ c. rw (to_z_pos w64 c.args.b (omega arith), to_z_pos w32 c.args.b (omega arith)) (refl, record { size = omega arith }))
     (λ c. search rules)
-    (λ c. rw (to_z_pos w64 c.before.args.b (omega arith)) (within_fits 4294967296 _ (lit< tt) (near c)))
+    (λ c. rw (to_z_pos w64 c.args.b (omega arith)) (within_fits 4294967296 _ (lit< tt) (near c)))
     returns_2)

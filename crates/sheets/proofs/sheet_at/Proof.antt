@@ -11,8 +11,8 @@ use Rattle.sheets.proofs.sheet_at.Tie as tie
 
 returns : tie.Need-returns
 returns c =
-    let s = c.before.before.before.before.before in
-    c.before.answer.ensures.answer ∙ ap₂ (λ x y. answer_of (sheet_at s.args.mode s.args.way x y s.args.sheet.now) []) (to_z-of_z {w = w32} s.ranges.x) (to_z-of_z {w = w32} s.ranges.y)
+    let s = c in
+    c.answer.ensures.answer ∙ ap₂ (λ x y. answer_of (sheet_at s.args.mode s.args.way x y s.args.sheet.now) []) (to_z-of_z {w = w32} s.ranges.x) (to_z-of_z {w = w32} s.ranges.y)
 
 pub sheet_at_spec : {M : Type 1} → statement M
-sheet_at_spec = tie.close (tie.spec (λ c. search rules) (λ c. search rules) (λ c κs. search rules) returns)
+sheet_at_spec = tie.close (tie.spec (λ c. search rules) (λ c κs. search rules) returns)

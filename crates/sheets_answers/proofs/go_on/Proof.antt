@@ -14,57 +14,57 @@ use Rattle.sheets_answers.proofs.go_on.Statement.{statement}
 use Rattle.sheets_answers.proofs.go_on.Tie as tie
 
 each_requires : tie.Need-each-requires
-each_requires c κs = few c.before.before.before.before.before.before.before.requires.1
+each_requires c κs = few c.requires.1
 
 owners_requires : tie.Need-owners-requires
-owners_requires c κs = let w = c.before.before.before.before.before.before.before.requires.1 in (pairs w, few w, table_in w)
+owners_requires c κs = let w = c.requires.1 in (pairs w, few w, table_in w)
 
-owner_at_requires : tie.Need-owner-at-requires
-owner_at_requires c κs = let w = c.before.before.before.before.before.before.before.requires.1 in (pairs w, few w, table_in w)
+owner_at_requires : tie.Need-owner_at-requires
+owner_at_requires c κs = let w = c.requires.1 in (pairs w, few w, table_in w)
 
-returns : tie.Need-returns
+returns : tie.Need-returns-in-OwnerSets
 returns c = λ j w.
-    let r = c.before.before.each in
-    let e = c.before.before.before.before in
-    let a = e.before.before.before.before.before.before.args in
-    subst (λ o. Answered o a.out.now r.result r.new.1.0) (owner_sets_on w a.way ∙ sym (ap (λ x. goes_on a.way x j) e.enum_told.given.1)) r.ensures
+    let r = c.each in
+    let e = c in
+    let a = e.args in
+    subst (λ o. Answered o a.out.now r.result r.new.out) (owner_sets_on w a.way ∙ sym (ap (λ x. goes_on a.way x j) e.in-OwnerSets.is)) r.ensures
 
-returns_2 : tie.Need-returns-2
+returns_2 : tie.Need-returns-in-Owners
 returns_2 c = λ j w.
-    let r = c.before.before.owners in
-    let e = c.before.before.before.before in
-    let a = e.before.before.before.before.before.before.args in
-    subst (λ o. Answered o a.out.now r.result r.new.1.1.1.1.0) (owners_on w a.way ∙ sym (ap (λ x. goes_on a.way x j) e.enum-told2.given.1)) r.ensures
+    let r = c.owners in
+    let e = c in
+    let a = e.args in
+    subst (λ o. Answered o a.out.now r.result r.new.out) (owners_on w a.way ∙ sym (ap (λ x. goes_on a.way x j) e.in-Owners.is)) r.ensures
 
-returns_3 : tie.Need-returns-3
+returns_3 : tie.Need-returns-in-Boundary
 returns_3 c = λ j w.
-    let r = c.before.before.boundary in
-    let e = c.before.before.before.before.before in
-    let a = e.before.before.before.before.before.before.args in
-    subst (λ o. Answered o a.out.now r.result r.new.1.1.1.1.1.0) (sym (ap (λ x. goes_on a.way x j) e.wanted.given.1)) (r.ensures j w)
+    let r = c.boundary in
+    let e = c in
+    let a = e.args in
+    subst (λ o. Answered o a.out.now r.result r.new.out) (sym (ap (λ x. goes_on a.way x j) e.in-Boundary.is)) (r.ensures j w)
 
-returns_4 : tie.Need-returns-4
+returns_4 : tie.Need-returns-in-Rings
 returns_4 c = λ j w.
-    let r = c.before.before.rings in
-    let e = c.before.before.before.before.before in
-    let a = e.before.before.before.before.before.before.args in
-    subst (λ o. Answered o a.out.now r.result r.new.1.1.1.1.1.0) (sym (ap (λ x. goes_on a.way x j) e.wanted2.given.1)) (r.ensures j w)
+    let r = c.rings in
+    let e = c in
+    let a = e.args in
+    subst (λ o. Answered o a.out.now r.result r.new.out) (sym (ap (λ x. goes_on a.way x j) e.in-Rings.is)) (r.ensures j w)
 
-returns_5 : tie.Need-returns-5
+returns_5 : tie.Need-returns-in-RingRoom
 returns_5 c = λ j w.
-    let r = c.ring-room in
-    let e = c.before.before in
-    let a = e.before.before.before.before.before.before.args in
-    subst (λ o. Answered o a.out.now r.result a.out.now) (sym (ap (λ x. goes_on a.way x j) e.wanted3.given.1)) (room_answered w a.way e.wanted3.given.0.0 a.out.now (r.ensures j w))
+    let r = c.ring_room in
+    let e = c in
+    let a = e.args in
+    subst (λ o. Answered o a.out.now r.result a.out.now) (sym (ap (λ x. goes_on a.way x j) e.in-RingRoom.is)) (room_answered w a.way e.in-RingRoom.polygon a.out.now (r.ensures j w))
 
-returns_6 : tie.Need-returns-6
+returns_6 : tie.Need-returns-in-At
 returns_6 c = λ j w.
     let r = c.owner_at in
-    let k = c.before.known-told4.given in
-    let e = c.before.before in
-    let a = e.before.before.before.before.before.before.args in
+    let k = c.in-At.known_told-in-At-1-own.given in
+    let e = c in
+    let a = e.args in
     subst (λ o. Answered o a.out.now r.result a.out.now)
-    (ap₂ (λ x y. goes_on a.way (At x y) j) (to_z-of_z {w = w32} (record { sfits = k.0.1 })) (to_z-of_z {w = w32} (record { sfits = k.1.0.1 })) ∙ sym (ap (λ x. goes_on a.way x j) e.wanted4.given.1))
+    (ap₂ (λ x y. goes_on a.way (At x y) j) (to_z-of_z {w = w32} (record { sfits = k.0.1 })) (to_z-of_z {w = w32} (record { sfits = k.1.0.1 })) ∙ sym (ap (λ x. goes_on a.way x j) e.in-At.is))
     (point_answered w a.way _ _ a.out.now (r.ensures ∙ ap (λ o. answer_of o []) (point_on w a.way _ _)))
 
 pub go_on_spec : {M : Type 1} → statement M

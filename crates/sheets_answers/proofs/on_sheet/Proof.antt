@@ -26,14 +26,14 @@ counted {j = j} {numbers = numbers} w e = subst (λ t. Counted numbers t (length
 told : (o : tie.Start) → Counted o.args.numbers.now o.args.triangles (length o.requires.0.sheet.polygons)
 told o = counted o.requires.3 o.requires.4
 
-returns : tie.Need-returns
-returns c = λ j opposite sets w e. sym (ap (λ p. leb 1 p && leb p (length j.sheet.polygons)) c.if1.true)
+returns : tie.Need-returns-then-polygon-eq0
+returns c = λ j opposite sets w e. sym (ap (λ p. leb 1 p && leb p (length j.sheet.polygons)) c.if-polygon-eq0.true)
 
-returns_2 : tie.Need-returns-2
+returns_2 : tie.Need-returns
 returns_2 c = λ j opposite sets w e.
-    let o = c.before.before in
+    let o = c in
     let k = counted w e in
-    ap (leb o.args.polygon) (omega (arith, k.are)) ∙ sym (ap (λ b. b && leb o.args.polygon (length j.sheet.polygons)) (le-leb 1 o.args.polygon (omega (arith, c.before.if1.false))))
+    ap (leb o.args.polygon) (omega (arith, k.are)) ∙ sym (ap (λ b. b && leb o.args.polygon (length j.sheet.polygons)) (le-leb 1 o.args.polygon (omega (arith, c.if-polygon-eq0.false))))
 
 pub on_sheet_spec : {M : Type 1} → statement M
 on_sheet_spec =

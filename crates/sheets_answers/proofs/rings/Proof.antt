@@ -2,7 +2,6 @@
 use mathlib.Core.Path.{◌≡◌, refl, sym, ◌∙◌, subst}
 use native.Mathlib.Omega.{arith}
 use borrow.Author.Rules.{rules}
-use borrow.Author.Tests.{not-true, not-false}
 use Rattle.lent.specs.Answered.{Answered}
 use Rattle.lent.proofs.Answered.{answered_refusal}
 use Rattle.judged.specs.Judged.{Judged}
@@ -13,27 +12,27 @@ use Rattle.sheets_answers.proofs.rings.Statement.{statement}
 use Rattle.sheets_answers.proofs.rings.Tie as tie
 
 -- ---- places: the entry of the function, and what the test has told
-abbrev start : tie.After-on-sheet → tie.Start
+abbrev start : tie.After-on_sheet → tie.Start
 start c = c.before.before.before.before.before
 
 told : (o : tie.Start) → let a = o.args in JudgedHeld o.requires.0 a.numbers.now a.opposite.now a.sets.now
 told o = o.requires.1
 
-on_sheet_requires : tie.Need-on-sheet-requires
+on_sheet_requires : tie.Need-on_sheet-requires
 on_sheet_requires c κs = let o = c.before.before.before.before in (o.requires.0, o.args.opposite.now, o.args.sets.now, told o, refl)
 
-returns : tie.Need-returns
+returns : tie.Need-returns-then-not-on_sheet
 returns c = λ j w.
     let k = c.before in
     let a = (start k).args in
-    answered_refusal _ a.out.now 41 0 (not_asked w a.way a.polygon _ (sym (k.on-sheet.ensures j a.opposite.now a.sets.now w refl) ∙ not-true _ c.if1.true))
+    answered_refusal _ a.out.now 41 0 (not_asked w a.way a.polygon _ (sym (k.on_sheet.ensures j a.opposite.now a.sets.now w refl) ∙ c.if-not-on_sheet.true))
 
-cast_rings : tie.Need-overflow-cast-rings
+cast_rings : tie.Need-overflow_cast-polygon
 cast_rings c =
     let k = c.before in
     let a = (start k).args in
     let w = told (start k) in
-    omega (arith, asked_byte w a.way a.polygon (sym (k.on-sheet.ensures _ a.opposite.now a.sets.now w refl) ∙ not-false _ c.if1.false))
+    omega (arith, asked_byte w a.way a.polygon (sym (k.on_sheet.ensures _ a.opposite.now a.sets.now w refl) ∙ c.if-not-on_sheet.false))
 
 rings_requires : tie.Need-rings-requires
 rings_requires c κs =
@@ -41,14 +40,14 @@ rings_requires c κs =
     let w = told o in
     (pairs w, few w, table_in w, begun w o.args.way o.args.polygon)
 
-returns_2 : tie.Need-returns-2
+returns_2 : tie.Need-returns
 returns_2 c = λ j w.
-    let b = c.before.before.rings in
+    let b = c.rings in
     let e = c.before.before.before.before in
     let k = e.before in
     let a = (start k).args in
-    subst (λ o. Answered o a.out.now b.result b.new.1.1.1.1.1.0)
-    (rings_on w a.way a.polygon (sym (k.on-sheet.ensures j a.opposite.now a.sets.now w refl) ∙ not-false _ e.if1.false)) b.ensures
+    subst (λ o. Answered o a.out.now b.result b.new.out)
+    (rings_on w a.way a.polygon (sym (k.on_sheet.ensures j a.opposite.now a.sets.now w refl) ∙ e.if-not-on_sheet.false)) b.ensures
 
 pub rings_spec : {M : Type 1} → statement M
 rings_spec = tie.close (tie.spec on_sheet_requires returns cast_rings rings_requires (λ c. search rules) returns_2)

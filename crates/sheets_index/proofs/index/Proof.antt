@@ -32,36 +32,36 @@ module _ (d : tie.After-read) where
   M = start.args.mode
 
   abbrev left : List ℕ
-  left = d.read.last.1.1.0
+  left = d.read.new.numbers
 
 -- A sheet was read.
-module _ (a : tie.After-n) where
+module _ (a : tie.In-Sheet) where
   abbrev D : tie.After-read
-  D = a.before.before.before
+  D = a.before.before
 
   abbrev K : ℕ
-  K = a.n.given.0.0
+  K = a.in-Sheet.n
 
   abbrev around : Around
-  around = a.n.given.0.1.0
+  around = a.in-Sheet.around
 
   pub held : (n : Sheet) × (read_by members (M D) (S D) ≡ value n) × (header_by (M D) (S D) ≡ around_of around) × SheetHeld members n (take K (left D)) × (K ≤ length (left D)) × RingsFit n × (4 * K ≤ length (S D))
-  held = subst (λ r. GotAs (M D) (S D) r (left D)) a.n.given.1 D.read.ensures.0
+  held = subst (λ r. GotAs (M D) (S D) r (left D)) a.in-Sheet.is D.read.ensures.0
 
-returns : tie.Need-returns
+returns : tie.Need-returns-in-Refused
 returns c =
-    let k = c.before in
-    let d = k.before.before.before in
-    let w = subst (λ r. GotAs (M d) (S d) r (left d)) k.code.given.1 d.read.ensures.0 in
+    let k = c in
+    let d = k.before.before in
+    let w = subst (λ r. GotAs (M d) (S d) r (left d)) k.in-Refused.is d.read.ensures.0 in
     answered_refusal _ (start d).args.out.now _ _ (index_unread (M d) (S d) _ _ w.0)
 
-returns_2 : tie.Need-returns-2
+returns_2 : tie.Need-returns-in-Sheet
 returns_2 c =
     let i = c.before.before.before in
-    let a = i.before.before.before.before in
+    let a = i.before.before.before in
     let d = D a in
     let h = held a in
-    subst (λ o. Answered o (start d).args.out.now i.index_of.result i.index_of.new.1.1.0)
+    subst (λ o. Answered o (start d).args.out.now i.index_of.result i.index_of.new.out)
     (ap (λ o. index_outcome (framed o h.0) h.0) (sym h.2) ∙ index_read (M d) (S d) h.0 h.1) (i.index_of.ensures h.0 h.3)
 
 pub index_spec : {M : Type 1} → statement M
@@ -76,9 +76,9 @@ index_spec =
     (λ c. search rules)
     (λ c. search rules)
     (λ c. search rules)
-    (λ c. (held c.before).4)
-    (λ c. sym (length-take-le _ _ (held c.before.before).4))
-    (λ c κs. let h = held c.before.before.before in (h.0, h.3))
+    (λ c. (held c).4)
+    (λ c. sym (length-take-le _ _ (held c.before).4))
+    (λ c κs. let h = held c.before.before in (h.0, h.3))
     returns
     (λ c. search rules)
     returns_2)

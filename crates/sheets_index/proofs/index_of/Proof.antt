@@ -30,14 +30,14 @@ use Rattle.sheets_index.proofs.index_of.Statement.{statement}
 use Rattle.sheets_index.proofs.index_of.Tie as tie
 
 -- ---- places: the entry of the function, and the call of `judge`
-abbrev start : tie.After-slice-known3 → tie.Start
-start c = c.before.before.before
+abbrev start : tie.After-slice_known-2-1 → tie.Start
+start c = c.before.before
 
 abbrev entry : tie.After-judge → tie.Start
-entry c = start c.before.before.before.before.before
+entry c = start c.before.before.before.before.before.before
 
-abbrev judge_call : tie.After-n → tie.After-judge
-judge_call c = c.before.before.before.before
+abbrev judge_call : tie.In-Sets → tie.After-judge
+judge_call c = c.before.before.before
 
 -- The number of triangles, off the first number: at most 1,024.
 abbrev many : tie.Start → ℕ
@@ -67,10 +67,10 @@ abbrev whole : tie.Start → Sheet → Bool
 whole o n = framed (around_of o.args.around) n
 
 abbrev across : tie.After-judge → List ℕ
-across c = c.judge.new.1.1.1.1.0
+across c = c.judge.new.opposite
 
 abbrev sets : tie.After-judge → List ℕ
-sets c = c.judge.new.1.1.1.1.1.0
+sets c = c.judge.new.sets
 
 -- The envelope is compared with the frame of the table alone.
 same_frame : (o : Option Opened) (n : Sheet) → framed o n ≡ framed o (bare n)
@@ -80,57 +80,56 @@ same_frame (some r) n = refl
 told : (c : tie.After-judge) (n : Sheet) → SheetHeld members n (entry c).args.numbers.now → OwnedOf none (whole (entry c) n) (bare n) c.judge.result (across c) (sets c)
 told c n h = subst (λ b. OwnedOf none b (bare n) c.judge.result (across c) (sets c)) (sym (same_frame (around_of (entry c).args.around) n)) (c.judge.ensures (bare n) (standing (entry c) n h))
 
-counted : (c : tie.After-n) (n : Sheet) → SheetHeld members n (entry (judge_call c)).args.numbers.now → OwnedOf none (whole (entry (judge_call c)) n) (bare n) (Sets c.n.given.0.0) (across (judge_call c)) (sets (judge_call c))
-counted c n h = subst (λ r. OwnedOf none (whole (entry (judge_call c)) n) (bare n) r (across (judge_call c)) (sets (judge_call c))) c.n.given.1 (told (judge_call c) n h)
+counted : (c : tie.In-Sets) (n : Sheet) → SheetHeld members n (entry (judge_call c)).args.numbers.now → OwnedOf none (whole (entry (judge_call c)) n) (bare n) (Sets c.in-Sets.n) (across (judge_call c)) (sets (judge_call c))
+counted c n h = subst (λ r. OwnedOf none (whole (entry (judge_call c)) n) (bare n) r (across (judge_call c)) (sets (judge_call c))) c.in-Sets.is (told (judge_call c) n h)
 
-sides_fit : (c : tie.After-n) → 3 * c.n.given.0.0 ≤ length (across (judge_call c))
-sides_fit c = let o = entry (judge_call c) in omega (arith, (counted c o.pre.0 o.pre.1).each, o.pre.1.few, (judge_call c).judge.auto.1.1.1.1.0)
+sides_fit : (c : tie.In-Sets) → 3 * c.in-Sets.n ≤ length (across (judge_call c))
+sides_fit c = let o = entry (judge_call c) in omega (arith, (counted c o.requires.0 o.requires.1).each, o.requires.1.few, (judge_call c).judge.auto.opposite)
 
-few_sides : (c : tie.After-n) → 3 * c.n.given.0.0 ≤ 3072
-few_sides c = let o = entry (judge_call c) in omega (arith, (counted c o.pre.0 o.pre.1).each, o.pre.1.few)
+few_sides : (c : tie.In-Sets) → 3 * c.in-Sets.n ≤ 3072
+few_sides c = let o = entry (judge_call c) in omega (arith, (counted c o.requires.0 o.requires.1).each, o.requires.1.few)
 
 judge_requires : tie.Need-judge-requires
-judge_requires c κs = let o = start c.before.before.before.before in ((bare o.pre.0, standing o o.pre.0 o.pre.1), omega arith, omega arith)
+judge_requires c κs = let o = start c.before.before.before.before.before in ((bare o.requires.0, standing o o.requires.0 o.requires.1), omega arith, omega arith)
 
 abbrev none_left : Sheet → Unit {0} → Answer (List ℕ)
 none_left n u = held_sets n.table []
 
-returns : tie.Need-returns
+returns : tie.Need-returns-in-Refused
 returns c = λ n h.
-    let k = c.before in
-    let d = k.before.before.before.before in
-    let g = k.code.given in
+    let k = c in
+    let d = k.before.before.before in
+    let g = k.in-Refused in
     let f = whole (entry d) n in
-    let w = subst (λ r. OwnedOf none f (bare n) r (across d) (sets d)) g.1 (told d n h) in
-    answered_refusal _ (entry d).args.out.now g.0.0 g.0.1.0
-    (index_refused f n _ _ (elim ((chain_refused (check_framed f (bare n)) (none_left n) g.0.0 g.0.1.0).0 (sym w.is)) [ inl p ↦ p | inr (u, p, q) ↦ absurd (value_refused _ _ _ q) ]))
+    let w = subst (λ r. OwnedOf none f (bare n) r (across d) (sets d)) g.is (told d n h) in
+    answered_refusal _ (entry d).args.out.now g.code g.item
+    (index_refused f n _ _ (elim ((chain_refused (check_framed f (bare n)) (none_left n) g.code g.item).0 (sym w.is)) [ inl p ↦ p | inr (u, p, q) ↦ absurd (value_refused _ _ _ q) ]))
 
-returns_2 : tie.Need-returns-2
+returns_2 : tie.Need-returns-in-Sets
 returns_2 c = λ n h.
     let w = c.before.before in
-    let k = w.before.before.before.before in
+    let k = w.before.before.before in
     let d = judge_call k in
     let f = whole (entry d) n in
     let t = counted k n h in
-    let (u, p, q) = (chain_value (check_framed f (bare n)) (none_left n) (take k.n.given.0.0 (sets d))).0 (sym t.is) in
-    subst (λ z. Answered z (entry d).args.out.now w.write.result w.write.new.1.0) (index_told f n _ p t.crossed) w.write.ensures
+    let (u, p, q) = (chain_value (check_framed f (bare n)) (none_left n) (take k.in-Sets.n (sets d))).0 (sym t.is) in
+    subst (λ z. Answered z (entry d).args.out.now w.write.result w.write.new.out) (index_told f n _ p t.crossed) w.write.ensures
 
 pub index_of_spec : {M : Type 1} → statement M
 index_of_spec =
     tie.close
     (tie.spec
-    (λ c. (first (start c)).0)
-    (λ c. omega (arith, (first (start c)).1))
-    (λ c. omega (arith, few (start c)))
-    (λ c. omega (arith, few (start c)))
-    (λ c. omega (arith, few (start c)))
-    (λ c. omega (arith, few (start c)))
-    (λ c. omega (arith, room (start c)))
-    (λ c. omega (arith, few (start c)))
-    (λ c. omega (arith, few (start c)))
-    (λ c. front_room (start c))
+    (λ c. (first (start c.before)).0)
+    (λ c. omega (arith, (first (start c.before)).1))
+    (λ c. omega (arith, few (start c.before)))
+    (λ c. omega (arith, few (start c.before)))
+    (λ c. omega (arith, few (start c.before)))
+    (λ c. omega (arith, few (start c.before)))
+    (λ c. omega (arith, room (start c.before)))
+    (λ c. omega (arith, few (start c.before)))
+    (λ c. omega (arith, few (start c.before)))
+    (λ c. front_room (start c.before))
     (λ c. sym (length-take-le _ _ (front_room (start c.before))))
-    (λ c. search rules)
     (λ c. search rules)
     (λ c. search rules)
     judge_requires
@@ -140,10 +139,10 @@ index_of_spec =
     (λ c. search rules)
     (λ c. search rules)
     (λ c. search rules)
-    (λ c. omega (arith, few_sides c.before))
-    (λ c. sides_fit c.before)
-    (λ c. sym (length-take-le _ _ (sides_fit c.before.before)))
-    (λ c κs. let k = c.before.before.before in omega (arith, few_sides k, length-take-le (3 * k.n.given.0.0) (across (judge_call k)) (sides_fit k)))
+    (λ c. omega (arith, few_sides c))
+    (λ c. sides_fit c)
+    (λ c. sym (length-take-le _ _ (sides_fit c.before)))
+    (λ c κs. let k = c.before.before in omega (arith, few_sides k, length-take-le (3 * k.in-Sets.n) (across (judge_call k)) (sides_fit k)))
     (λ c. search rules)
     returns
     (λ c. search rules)

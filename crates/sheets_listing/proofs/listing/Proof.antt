@@ -17,34 +17,34 @@ use Rattle.sheets_listing.proofs.listing.Statement.{statement}
 use Rattle.sheets_listing.proofs.listing.Tie as tie
 
 -- ---- places: the entry of the function, the call of `print`, the listing
-abbrev start : tie.After-print → tie.Start
+abbrev start : tie.After-print-n → tie.Start
 start c = c.before.before.before.before
 
-abbrev text : tie.After-print → List ℕ
+abbrev text : tie.After-print-n → List ℕ
 text c = let a = (start c).args in listing a.way (judged_sheet a.mode a.sheet.now)
 
-many : (c : tie.After-print) → length (text c) ≡ c.print.result
-many c = omega (arith, c.print.ensures.1.place)
+many : (c : tie.After-print-n) → length (text c) ≡ c.print-n.result
+many c = omega (arith, c.print-n.ensures.1.place)
 
 -- It stands at the front of the work list.
-fits : (c : tie.After-print) → c.print.result ≤ length c.print.new.1.1.1.0
-fits c = omega (arith, c.print.ensures.0, c.print.auto.1.1.1.0)
+fits : (c : tie.After-print-n) → c.print-n.result ≤ length c.print-n.new.text
+fits c = omega (arith, c.print-n.ensures.0, c.print-n.auto.text)
 
-returns : tie.Need-returns
+returns : tie.Need-returns-then-out-n
 returns c = let p = c.before.before in answered_short _ _ (length (text p)) (text p) (listing_on _ _ (start p).args.sheet.now) (omega (arith, many p))
 
-put_word_requires : tie.Need-put-word-requires
-put_word_requires c κs = let p = c.before.before.before.before in omega (arith, length-take-le p.print.result p.print.new.1.1.1.0 (fits p))
+put_word_requires : tie.Need-put_word-requires
+put_word_requires c κs = let p = c.before.before.before.before in omega (arith, length-take-le p.print-n.result p.print-n.new.text (fits p))
 
-returns_2 : tie.Need-returns-2
+returns_2 : tie.Need-returns
 returns_2 c =
-    let w = c.before.before.put_word in
+    let w = c.put_word in
     let e = c.before.before.before.before.before in
     let p = e.before.before in
     let a = (start p).args in
-    subst (λ m. Answered (sheet_listing_by a.mode a.way a.sheet.now) a.out.now (m * 256) w.new.0) (many p)
-    (answered_bytes _ _ (length (text p)) (text p) (listing_on _ _ a.sheet.now) _ (omega (arith, many p, e.if1.false))
-    (put_over w.ensures ∙ ap (λ l. l ++ drop (length l) a.out.now) (put_front p.print.ensures.1)))
+    subst (λ m. Answered (sheet_listing_by a.mode a.way a.sheet.now) a.out.now (m * 256) w.new.text) (many p)
+    (answered_bytes _ _ (length (text p)) (text p) (listing_on _ _ a.sheet.now) _ (omega (arith, many p, e.if-out-n.false))
+    (put_over w.ensures ∙ ap (λ l. l ++ drop (length l) a.out.now) (put_front p.print-n.ensures.1)))
 
 pub listing_spec : {M : Type 1} → statement M
 listing_spec =

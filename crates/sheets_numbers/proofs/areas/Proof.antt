@@ -5,7 +5,6 @@ use mathlib.Core.List.{List, map, ◌++◌}
 use Prim.Native.Nat.{ℕ, ◌+◌, ◌-◌, ◌*◌, ◌≤◌, ◌<◌}
 use native.Mathlib.Omega.{arith}
 use borrow.Author.Rules.{rules}
-use borrow.Author.Tests.{not-true, not-false}
 use lib.ListN.{length, get_or, take, length-append}
 use lib.Seq.{length-take-le, take_at}
 use mir.Syntax.{w64}
@@ -39,37 +38,37 @@ module _ (d : tie.After-read) where
   M = start.args.mode
 
   abbrev left : List ℕ
-  left = d.read.last.1.1.0
+  left = d.read.new.numbers
 
 -- A sheet was read.
-module _ (a : tie.After-n) where
+module _ (a : tie.In-Sheet) where
   abbrev D : tie.After-read
-  D = a.before.before.before
+  D = a.before.before
 
   abbrev K : ℕ
-  K = a.n.given.0.0
+  K = a.in-Sheet.n
 
   abbrev around : Around
-  around = a.n.given.0.1.0
+  around = a.in-Sheet.around
 
   pub held : (n : Sheet) × (read_by members (M D) (S D) ≡ value n) × (header_by (M D) (S D) ≡ around_of around) × SheetHeld members n (take K (left D)) × (K ≤ length (left D)) × RingsFit n × (4 * K ≤ length (S D))
-  held = subst (λ r. GotAs (M D) (S D) r (left D)) a.n.given.1 D.read.ensures.0
+  held = subst (λ r. GotAs (M D) (S D) r (left D)) a.in-Sheet.is D.read.ensures.0
 
   pub as_many : length (take K (left D)) ≡ K
   as_many = length-take-le K (left D) held.4
 
 -- The envelope was compared.
 module _ (f : tie.After-framed) where
-  abbrev A : tie.After-n
-  A = f.before.before.before
+  abbrev A : tie.In-Sheet
+  A = f.before.before
 
   pub compared : f.framed.result ≡ framed (header_by (M (D A)) (S (D A))) (held A).0
   compared = f.framed.ensures members (held A).0 (held A).3 ∙ ap (λ o. framed o (held A).0) (sym (held A).2)
 
 -- It agrees, and the numbers of triangles and of polygons stand in the numbers.
-module _ (e : tie.Else1) where
-  abbrev B : tie.After-n
-  B = A e.before
+module _ (f : tie.After-framed) where
+  abbrev B : tie.In-Sheet
+  B = A f
 
   abbrev numbers : List ℕ
   numbers = left (D B)
@@ -95,18 +94,18 @@ module _ (e : tie.Else1) where
   as_polygons = omega (arith, counts.3)
 
 -- ---- the double areas that were laid down: one for each polygon, at the front of the work list
-module _ (c : tie.After-areas2) where
-  abbrev E : tie.Else1
-  E = c.before.before.before
+module _ (c : tie.After-areas) where
+  abbrev E : tie.After-framed
+  E = c.before.before.before.before
 
   abbrev laid : List ℕ
-  laid = c.areas2.new.1.0
+  laid = c.areas.new.areas
 
   pub laid_many : length laid ≡ polygons E
-  laid_many = c.areas2.auto.1.0 ∙ length-take-le _ _ (few E)
+  laid_many = c.areas.auto.areas ∙ length-take-le _ _ (few E)
 
   pub laid_are : laid ≡ map (λ (m : Member). of_z w64 (double_area m)) (held (B E)).0.polygons
-  laid_are = c.areas2.ensures members (held (B E)).0 (K (B E)) (held (B E)).3 (held (B E)).5 (as_polygons E ∙ sym (length-take-le _ _ (few E)))
+  laid_are = c.areas.ensures members (held (B E)).0 (K (B E)) (held (B E)).3 (held (B E)).5 (as_polygons E ∙ sym (length-take-le _ _ (few E)))
 
   pub laid_room : (rest : List ℕ) → polygons E ≤ length (laid ++ rest)
   laid_room rest = omega (arith, length-append laid rest, laid_many)
@@ -119,25 +118,25 @@ module _ (c : tie.After-areas2) where
   outcome x e =
       let n = (held (B E)).0 in
       ap each_outcome (e ∙ laid_are) ∙ areas_held n
-      ∙ sym (goes_on areas_outcome (M (D (B E))) (S (D (B E))) n (held (B E)).1 (sym (compared E.before) ∙ not-false E.before.framed.result E.if1.left))
+      ∙ sym (goes_on areas_outcome (M (D (B E))) (S (D (B E))) n (held (B E)).1 (sym (compared E) ∙ c.if-not-framed.false))
 
 told : (o p : Outcome) (before : List ℕ) (r : ℕ) (after : List ℕ) → o ≡ p → Answered o before r after → Answered p before r after
 told o p before r after e = subst (λ (q : Outcome). Answered q before r after) e
 
 -- ---- the needs
-returns : tie.Need-returns
+returns : tie.Need-returns-then-not-framed
 returns c =
     let f = c.before in
     let a = A f in
-    answered_refusal _ _ 52 0 (unframed areas_outcome (M (D a)) (S (D a)) (held a).0 (held a).1 (sym (compared f) ∙ not-true f.framed.result c.if1.true))
+    answered_refusal _ _ 52 0 (unframed areas_outcome (M (D a)) (S (D a)) (held a).0 (held a).1 (sym (compared f) ∙ c.if-not-framed.true))
 
-returns_2 : tie.Need-returns-2
+returns_2 : tie.Need-returns-in-Refused
 returns_2 c =
-    let k = c.before in
-    let d = k.before.before.before in
-    answered_refusal _ _ _ _ (unread areas_outcome (M d) (S d) _ _ (subst (λ r. GotAs (M d) (S d) r (left d)) k.code.given.1 d.read.ensures.0).0)
+    let k = c in
+    let d = k.before.before in
+    answered_refusal _ _ _ _ (unread areas_outcome (M d) (S d) _ _ (subst (λ r. GotAs (M d) (S d) r (left d)) k.in-Refused.is d.read.ensures.0).0)
 
-returns_3 : tie.Need-returns-3
+returns_3 : tie.Need-returns-else-not-framed
 returns_3 c =
     let w = c.before.before in
     let a = w.before.before.before.before in
@@ -155,23 +154,23 @@ areas_spec =
     (λ c. search rules)
     (λ c. search rules)
     (λ c. search rules)
-    (λ c. (held c.before).4)
-    (λ c. sym (as_many c.before.before))
-    (λ c κs. let a = c.before.before in (members, (held a).0, (held a).3))
+    (λ c. (held c).4)
+    (λ c. sym (as_many c.before))
+    (λ c κs. let a = c.before in (members, (held a).0, (held a).3))
     returns
     (λ c. search rules)
-    (λ c. omega (arith, counts c))
-    (λ c. omega (arith, counts c))
-    (λ c. omega (arith, counts c))
-    (λ c. omega (arith, counts c))
-    (λ c. omega (arith, counts c))
-    (λ c. omega (arith, (counts c).2))
-    (λ c. omega (arith, (counts c).3))
-    (λ c. omega (arith, few c))
+    (λ c. omega (arith, counts c.before))
+    (λ c. omega (arith, counts c.before))
+    (λ c. omega (arith, counts c.before))
+    (λ c. omega (arith, counts c.before))
+    (λ c. omega (arith, counts c.before))
+    (λ c. omega (arith, (counts c.before).2))
+    (λ c. omega (arith, (counts c.before).3))
+    (λ c. omega (arith, few c.before))
     (λ c. search rules)
-    (λ c. few c.before)
-    (λ c. sym (length-take-le _ _ (few c.before.before)))
-    (λ c κs. let e = c.before.before in let b = B e in (members, (held b).0, K b, (held b).3, (held b).5, as_polygons e ∙ sym (length-take-le _ _ (few e))))
+    (λ c. few c.before.before)
+    (λ c. sym (length-take-le _ _ (few c.before.before.before)))
+    (λ c κs. let e = c.before.before.before in let b = B e in (members, (held b).0, K b, (held b).3, (held b).5, as_polygons e ∙ sym (length-take-le _ _ (few e))))
     (λ c. laid_room c.before _)
     (λ c. sym (length-take-le _ _ (laid_room c.before.before _)))
     (λ c κs. let a = c.before.before.before in laid_few a _ (take_at (laid a) _ _ (laid_many a)))

@@ -58,38 +58,38 @@ module _ (o : tie.Start) where
   text = flat_map held_bytes (take N o.args.numbers.now)
 
   pub many : length text ≡ 4 * N
-  many = omega (arith, four_each (take N o.args.numbers.now), length-take-le N o.args.numbers.now o.pre.0)
+  many = omega (arith, four_each (take N o.args.numbers.now), length-take-le N o.args.numbers.now o.requires.0)
 
-returns : tie.Need-returns
+returns : tie.Need-returns-then-out-n
 returns c =
-    let o = c.before.before.before.before.before in
-    answered_short _ _ _ _ (alone o.args.around (N o) (text o) c.before.enum_told.given.1) (omega (arith, many o, c.if1.true))
+    let o = c.before.before.before.before in
+    answered_short _ _ _ _ (alone o.args.around (N o) (text o) c.in-Nothing.is) (omega (arith, many o, c.if-out-n.true))
 
-returns_2 : tie.Need-returns-2
+returns_2 : tie.Need-returns-then-out-n-2
 returns_2 c =
-    let o = c.before.before.before.before.before.before in
-    let a = c.before.before in
-    let h = a.around.given.0.0 in
-    answered_short _ _ _ _ (headed o.args.around h (N o) (text o) a.around.given.1)
-    (omega (arith, many o, length_bytes 4 h.number, length-append (Ordered.bytes 4 h.number) (text o), c.if2.true))
+    let o = c.before.before.before.before in
+    let a = c in
+    let h = a.in-Header.h in
+    answered_short _ _ _ _ (headed o.args.around h (N o) (text o) a.in-Header.is)
+    (omega (arith, many o, length_bytes 4 h.number, length-append (Ordered.bytes 4 h.number) (text o), c.if-out-n-2.true))
 
-returns_3 : tie.Need-returns-3
+returns_3 : tie.Need-returns-else-out-n
 returns_3 c =
-    let o = c.before.before.before.before.before.before.before.before.before in
-    let e = c.before.before.before.before in
-    answered_bytes _ _ _ _ (alone o.args.around (N o) (text o) e.before.enum_told.given.1) _ (omega (arith, many o, e.if1.false))
-    (c.before.before.write.ensures ∙ ap (λ k. text o ++ drop k o.args.out.now) (sym (many o)))
+    let o = c.before.before.before.before.before.before.before.before in
+    let e = c in
+    answered_bytes _ _ _ _ (alone o.args.around (N o) (text o) e.in-Nothing.is) _ (omega (arith, many o, e.if-out-n.false))
+    (c.write.ensures ∙ ap (λ k. text o ++ drop k o.args.out.now) (sym (many o)))
 
-returns_4 : tie.Need-returns-4
+returns_4 : tie.Need-returns-else-out-n-2
 returns_4 c =
-    let o = c.before.before.before.before.before.before.before.before.before.before.before.before.before.before.before in
-    let a = c.before.before.before.before.before.before.before.before.before.before.before in
-    let e = c.before.before.before.before.before.before.before.before.before in
-    let w = c.before.before.before.before.before.before.before in
-    let h = a.around.given.0.0 in
+    let o = c.before.before.before.before.before.before.before.before.before.before.before.before.before in
+    let a = c in
+    let e = c in
+    let w = c in
+    let h = a.in-Header.h in
     let first = Ordered.bytes 4 h.number in
-    answered_bytes _ _ _ _ (headed o.args.around h (N o) (text o) a.around.given.1) _ (omega (arith, many o, length_bytes 4 h.number, length-append first (text o), e.if2.false))
-    (both first (text o) o.args.out.now _ _ (N o) (length_bytes 4 h.number) (many o) (omega (arith, e.if2.false)) (w.write2.ensures ∙ ap (λ l. text o ++ drop (4 * N o) l) (part_to_end o.args.out.now 4)) (c.before.before.put.ensures ∙ ap (λ m. sets (take 4 o.args.out.now ++ m) 0 first) (nothing_behind o.args.out.now w.write2.new.1.1.0)))
+    answered_bytes _ _ _ _ (headed o.args.around h (N o) (text o) a.in-Header.is) _ (omega (arith, many o, length_bytes 4 h.number, length-append first (text o), e.if-out-n-2.false))
+    (both first (text o) o.args.out.now _ _ (N o) (length_bytes 4 h.number) (many o) (omega (arith, e.if-out-n-2.false)) (w.write-in-Header.ensures ∙ ap (λ l. text o ++ drop (4 * N o) l) (part_to_end o.args.out.now 4)) (c.put.ensures ∙ ap (λ m. sets (take 4 o.args.out.now ++ m) 0 first) (nothing_behind o.args.out.now w.write-in-Header.new.out)))
 
 pub form_spec : {M : Type 1} → statement M
 form_spec =

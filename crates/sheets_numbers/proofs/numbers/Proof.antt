@@ -6,7 +6,6 @@ use mathlib.Core.List.{List, flat_map, ◌++◌}
 use Prim.Native.Nat.{ℕ, ◌+◌, ◌*◌, ◌≤◌}
 use native.Mathlib.Omega.{arith}
 use borrow.Author.Rules.{rules}
-use borrow.Author.Tests.{not-true, not-false}
 use lib.ListN.{length, take}
 use lib.Seq.{length-take-le}
 use Rattle.lent.specs.Stages.{value}
@@ -36,21 +35,21 @@ module _ (d : tie.After-read) where
   M = start.args.mode
 
   abbrev left : List ℕ
-  left = d.read.last.1.1.0
+  left = d.read.new.numbers
 
 -- A sheet was read.
-module _ (a : tie.After-n) where
+module _ (a : tie.In-Sheet) where
   abbrev D : tie.After-read
-  D = a.before.before.before
+  D = a.before.before
 
   abbrev K : ℕ
-  K = a.n.given.0.0
+  K = a.in-Sheet.n
 
   abbrev around : Around
-  around = a.n.given.0.1.0
+  around = a.in-Sheet.around
 
   pub held : (n : Sheet) × (read_by members (M D) (S D) ≡ value n) × (header_by (M D) (S D) ≡ around_of around) × SheetHeld members n (take K (left D)) × (K ≤ length (left D)) × RingsFit n × (4 * K ≤ length (S D))
-  held = subst (λ r. GotAs (M D) (S D) r (left D)) a.n.given.1 D.read.ensures.0
+  held = subst (λ r. GotAs (M D) (S D) r (left D)) a.in-Sheet.is D.read.ensures.0
 
   pub few : K ≤ 16450
   few = omega (arith, held.4, D.read.ensures.1)
@@ -68,8 +67,8 @@ module _ (a : tie.After-n) where
 
 -- The envelope was compared.
 module _ (f : tie.After-framed) where
-  abbrev A : tie.After-n
-  A = f.before.before.before
+  abbrev A : tie.In-Sheet
+  A = f.before.before
 
   pub compared : f.framed.result ≡ framed (header_by (M (D A)) (S (D A))) (held A).0
   compared = f.framed.ensures members (held A).0 (held A).3 ∙ ap (λ o. framed o (held A).0) (sym (held A).2)
@@ -78,24 +77,24 @@ told : (o p : Outcome) (before : List ℕ) (r : ℕ) (after : List ℕ) → o �
 told o p before r after e = subst (λ (q : Outcome). Answered q before r after) e
 
 -- ---- the needs
-returns : tie.Need-returns
+returns : tie.Need-returns-then-not-framed
 returns c =
     let f = c.before in
     let a = A f in
-    answered_refusal _ _ 52 0 (unframed (form_outcome (header_by (M (D a)) (S (D a)))) (M (D a)) (S (D a)) (held a).0 (held a).1 (sym (compared f) ∙ not-true f.framed.result c.if1.true))
+    answered_refusal _ _ 52 0 (unframed (form_outcome (header_by (M (D a)) (S (D a)))) (M (D a)) (S (D a)) (held a).0 (held a).1 (sym (compared f) ∙ c.if-not-framed.true))
 
-returns_2 : tie.Need-returns-2
+returns_2 : tie.Need-returns-in-Refused
 returns_2 c =
-    let k = c.before in
-    let d = k.before.before.before in
-    answered_refusal _ _ _ _ (unread (form_outcome (header_by (M d) (S d))) (M d) (S d) _ _ (subst (λ r. GotAs (M d) (S d) r (left d)) k.code.given.1 d.read.ensures.0).0)
+    let k = c in
+    let d = k.before.before in
+    answered_refusal _ _ _ _ (unread (form_outcome (header_by (M d) (S d))) (M d) (S d) _ _ (subst (λ r. GotAs (M d) (S d) r (left d)) k.in-Refused.is d.read.ensures.0).0)
 
-returns_3 : tie.Need-returns-3
+returns_3 : tie.Need-returns-else-not-framed
 returns_3 c =
     let w = c.before.before in
     let t = w.before.before.before in
     let f = t.before in
-    told _ _ _ _ _ (sym (outcome (A f) (sym (compared f) ∙ not-false f.framed.result t.if1.false))) w.form.ensures
+    told _ _ _ _ _ (sym (outcome (A f) (sym (compared f) ∙ t.if-not-framed.false))) w.form.ensures
 
 pub numbers_spec : {M : Type 1} → statement M
 numbers_spec =
@@ -109,12 +108,12 @@ numbers_spec =
     (λ c. search rules)
     (λ c. search rules)
     (λ c. search rules)
-    (λ c. (held c.before).4)
-    (λ c. sym (as_many c.before.before))
-    (λ c κs. let a = c.before.before in (members, (held a).0, (held a).3))
+    (λ c. (held c).4)
+    (λ c. sym (as_many c.before))
+    (λ c κs. let a = c.before in (members, (held a).0, (held a).3))
     returns
     (λ c. search rules)
-    (λ c κs. let a = c.before.before.before.before.before.before in ((held a).4, few a))
+    (λ c κs. let a = c.before.before.before.before.before in ((held a).4, few a))
     returns_2
     (λ c. search rules)
     returns_3)

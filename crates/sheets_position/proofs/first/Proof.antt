@@ -8,8 +8,8 @@ use Rattle.outcomes.specs.Entries.{first_of}
 use Rattle.sheets_position.proofs.first.Statement.{statement}
 use Rattle.sheets_position.proofs.first.Tie as tie
 
-returns_2 : tie.Need-returns-2
-returns_2 c = let g = c.enum-told2.given in sym (ap (λ a. length (first_of (around_of a))) g.1 ∙ length_bytes 4 _)
+returns_2 : tie.Need-returns-in-Header
+returns_2 c = sym (ap (λ a. length (first_of (around_of a))) c.in-Header.is ∙ length_bytes 4 _)
 
 pub first_spec : {M : Type 1} → statement M
 first_spec = tie.close (tie.spec (λ c. search rules) (λ c. search rules) (λ c. search rules) returns_2)

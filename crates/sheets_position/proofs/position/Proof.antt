@@ -4,7 +4,6 @@ use mathlib.Core.List.{List}
 use Prim.Native.Nat.{ℕ, ◌+◌, ◌*◌, ◌≤◌}
 use native.Mathlib.Omega.{arith}
 use borrow.Author.Rules.{rules}
-use borrow.Author.Tests.{not-true, not-false}
 use lib.ListN.{length, take}
 use lib.Seq.{length-take-le}
 use Rattle.lent.specs.Stages.{value}
@@ -34,21 +33,21 @@ module _ (d : tie.After-read) where
   M = start.args.mode
 
   abbrev left : List ℕ
-  left = d.read.last.1.1.0
+  left = d.read.new.numbers
 
 -- A sheet was read.
-module _ (a : tie.After-n) where
+module _ (a : tie.In-Sheet) where
   abbrev D : tie.After-read
-  D = a.before.before.before
+  D = a.before.before
 
   abbrev K : ℕ
-  K = a.n.given.0.0
+  K = a.in-Sheet.n
 
   abbrev around : Around
-  around = a.n.given.0.1.0
+  around = a.in-Sheet.around
 
   pub held : (n : Sheet) × (read_by members (M D) (S D) ≡ value n) × (header_by (M D) (S D) ≡ around_of around) × SheetHeld members n (take K (left D)) × (K ≤ length (left D)) × RingsFit n × (4 * K ≤ length (S D))
-  held = subst (λ r. GotAs (M D) (S D) r (left D)) a.n.given.1 D.read.ensures.0
+  held = subst (λ r. GotAs (M D) (S D) r (left D)) a.in-Sheet.is D.read.ensures.0
 
   pub few : K ≤ 16450
   few = omega (arith, held.4, D.read.ensures.1)
@@ -58,8 +57,8 @@ module _ (a : tie.After-n) where
 
 -- The envelope was compared.
 module _ (f : tie.After-framed) where
-  abbrev A : tie.After-n
-  A = f.before.before.before
+  abbrev A : tie.In-Sheet
+  A = f.before.before
 
   pub compared : f.framed.result ≡ framed (header_by (M (D A)) (S (D A))) (held A).0
   compared = f.framed.ensures members (held A).0 (held A).3 ∙ ap (λ o. framed o (held A).0) (sym (held A).2)
@@ -68,29 +67,29 @@ told : (o p : Outcome) (before : List ℕ) (r : ℕ) (after : List ℕ) → o �
 told o p before r after e = subst (λ (q : Outcome). Answered q before r after) e
 
 -- ---- the needs
-returns : tie.Need-returns
+returns : tie.Need-returns-then-not-framed
 returns c =
     let t = c.before.before.before.before in
     let f = t.before in
     let a = A f in
-    told _ _ _ _ _ (sym (position_unframed (M (D a)) (S (D a)) (held a).0 (held a).1 (sym (compared f) ∙ not-true f.framed.result t.if1.true))) c.before.before.tell2.ensures
+    told _ _ _ _ _ (sym (position_unframed (M (D a)) (S (D a)) (held a).0 (held a).1 (sym (compared f) ∙ t.if-not-framed.true))) c.tell-then-not-framed.ensures
 
-returns_2 : tie.Need-returns-2
+returns_2 : tie.Need-returns-in-Refused
 returns_2 c =
-    let k = c.before.before.before.before.before in
-    let d = k.before.before.before in
-    let w = subst (λ r. GotAs (M d) (S d) r (left d)) k.code.given.1 d.read.ensures.0 in
-    told _ _ _ _ _ (sym (position_refused (M d) (S d) _ _ _ w.0 w.1)) c.before.before.tell.ensures
+    let k = c.before.before.before.before in
+    let d = k.before.before in
+    let w = subst (λ r. GotAs (M d) (S d) r (left d)) k.in-Refused.is d.read.ensures.0 in
+    told _ _ _ _ _ (sym (position_refused (M d) (S d) _ _ _ w.0 w.1)) c.tell.ensures
 
-returns_3 : tie.Need-returns-3
+returns_3 : tie.Need-returns-else-not-framed
 returns_3 c =
     let b = c.before.before.before.before in
     let t = b.before in
     let f = t.before in
     let a = A f in
-    let p = position_read (M (D a)) (S (D a)) (held a).0 (held a).1 (take (K a) (left (D a))) (held a).3 (sym (compared f) ∙ not-false f.framed.result t.if1.false) in
+    let p = position_read (M (D a)) (S (D a)) (held a).0 (held a).1 (take (K a) (left (D a))) (held a).3 (sym (compared f) ∙ t.if-not-framed.false) in
     let o : length (first_of (header_by (M (D a)) (S (D a)))) ≡ b.first.result = ap (λ o. length (first_of o)) (held a).2 ∙ sym b.first.ensures in
-    told _ _ _ _ _ (sym (p ∙ ap₂ (λ x y. telling ((x + 4 * y) * 256) 0) o (as_many a))) c.before.before.tell3.ensures
+    told _ _ _ _ _ (sym (p ∙ ap₂ (λ x y. telling ((x + 4 * y) * 256) 0) o (as_many a))) c.tell-in-Sheet.ensures
 
 -- The bytes of the first number are few.
 at_most : (a : Around) → length (first_of (around_of a)) ≤ 4
@@ -98,7 +97,7 @@ at_most Nothing = omega arith
 at_most (Header h) = omega (arith, length_bytes 4 h.number)
 
 small : (b : tie.After-first) → b.first.result ≤ 4
-small b = omega (arith, b.first.ensures, at_most b.before.before.before.before.before.n.given.0.1.0)
+small b = omega (arith, b.first.ensures, at_most b.in-Sheet.around)
 
 pub position_spec : {M : Type 1} → statement M
 position_spec =
@@ -113,9 +112,9 @@ position_spec =
     (λ c. search rules)
     (λ c κs. search rules)
     (λ c. search rules)
-    (λ c. (held c.before).4)
-    (λ c. sym (as_many c.before.before))
-    (λ c κs. let a = c.before.before in (members, (held a).0, (held a).3))
+    (λ c. (held c).4)
+    (λ c. sym (as_many c.before))
+    (λ c κs. let a = c.before in (members, (held a).0, (held a).3))
     (λ c κs. search rules)
     (λ c. search rules)
     returns

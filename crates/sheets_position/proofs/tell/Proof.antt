@@ -24,16 +24,16 @@ both a p out first last h e q =
     q ∙ ap (λ l. sets l 8 (u64 p)) e ∙ sets_behind out (u64 a) (u64 p) 0 8 (omega (arith, set_length a)) ∙ sets-eq (u64 a ++ u64 p) out 0 (omega arith)
     ∙ ap (λ k. u64 a ++ u64 p ++ drop k out) z
 
-returns : tie.Need-returns
-returns c = answered_short _ _ _ _ refl (omega (arith, sixteen c.before.before.args.answer c.before.before.args.position))
+returns : tie.Need-returns-then-out-lt16
+returns c = answered_short _ _ _ _ refl (omega (arith, sixteen c.args.answer c.args.position))
 
-returns_2 : tie.Need-returns-2
+returns_2 : tie.Need-returns
 returns_2 c =
-    let d = c.before.before.before.before.before.before.before.before in
-    let a = d.before.before.args.answer in
-    let p = d.before.before.args.position in
-    let room = d.if1.false in
-    answered_bytes _ _ _ _ refl _ (omega (arith, sixteen a p)) (both a p _ _ _ (omega arith) c.before.before.before.before.before.before.put.ensures c.before.before.put2.ensures)
+    let d = c in
+    let a = d.args.answer in
+    let p = d.args.position in
+    let room = d.if-out-lt16.false in
+    answered_bytes _ _ _ _ refl _ (omega (arith, sixteen a p)) (both a p _ _ _ (omega arith) c.put.ensures c.put-2.ensures)
 
 pub tell_spec : {M : Type 1} → statement M
 tell_spec = tie.close (tie.spec returns (λ c κs. search rules) (λ c κs. search rules) (λ c. search rules) returns_2)

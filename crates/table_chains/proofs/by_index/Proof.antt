@@ -15,19 +15,19 @@ use Rattle.table_chains.specs.Linking.{Within}
 use Rattle.table_chains.proofs.by_index.Statement.{statement}
 use Rattle.table_chains.proofs.by_index.Tie as tie
 
-abbrev invariant_loop : tie.invariant_loop
+abbrev invariant_loop : tie.invariant-loop-i
 invariant_loop index codes lent opposite₀ i₀ opposite i = (i ≤ length codes) × (length opposite ≡ length opposite₀) × ((j : ℕ) → j < i → Distinct codes → get_or opposite j 0 ≡ number_in (turned (get_or codes j 0)) codes)
 
-abbrev decreases_loop : tie.decreases_loop
+abbrev decreases_loop : tie.decreases-loop-i
 decreases_loop index codes lent opposite₀ i₀ opposite i = length codes - i
 
 -- ---- places: the entry of the function
-abbrev start : tie.At-loop invariant_loop decreases_loop → tie.Start invariant_loop decreases_loop
+abbrev start : tie.At-loop-i invariant_loop decreases_loop → tie.Start invariant_loop decreases_loop
 start c = c.before.before.before.before.before
 
 -- The places of the two corners of side i.
-within : (c : tie.At-loop invariant_loop decreases_loop) → c.loop.i < length (start c).args.codes.now → Within (length (start c).args.codes.now) (get_or (start c).args.codes.now c.loop.i 0)
-within c h = all_at (Within (length (start c).args.codes.now)) 0 (start c).args.codes.now c.loop.i (start c).requires.0 h
+within : (c : tie.At-loop-i invariant_loop decreases_loop) → c.loop-i.i < length (start c).args.codes.now → Within (length (start c).args.codes.now) (get_or (start c).args.codes.now c.loop-i.i 0)
+within c h = all_at (Within (length (start c).args.codes.now)) 0 (start c).args.codes.now c.loop-i.i (start c).requires.0 h
 
 -- What stands at a place of a list that was made from another one.
 map_at : (f : ℕ → ℕ) (l : List ℕ) (i : ℕ) → i < length l → get_or (map f l) i 0 ≡ f (get_or l i 0)
@@ -35,10 +35,10 @@ map_at f [] i h = absurd (omega arith)
 map_at f (x ∷ l) zero h = refl
 map_at f (x ∷ l) (suc i) h = map_at f l i (omega arith)
 
-loop_holds : tie.Need-loop-init invariant_loop decreases_loop
+loop_holds : tie.Need-loop-i-init invariant_loop decreases_loop
 loop_holds c = (omega arith, refl, λ j h. absurd (omega arith))
 
-add_code : tie.Need-overflow-add-code invariant_loop decreases_loop
+add_code : tie.Need-overflow_add-code invariant_loop decreases_loop
 add_code c = let l = c.before.before.before in omega (arith, within l (omega arith), (start l).requires.1)
 
 reverse_requires : tie.Need-reverse-requires invariant_loop decreases_loop
@@ -46,29 +46,29 @@ reverse_requires c κs =
     let l = c.before.before.before in
     let s = start l in
     let w = within l (omega arith) in
-    (omega (arith, s.pre.1), s.pre.1, (omega (arith, w.0, w.1, s.pre.1), omega (arith, w.0, w.1, s.pre.1)), s.pre.2)
+    (omega (arith, s.requires.1), s.requires.1, (omega (arith, w.0, w.1, s.requires.1), omega (arith, w.0, w.1, s.requires.1)), s.requires.2)
 
-loop_again : tie.Need-loop-preserved invariant_loop decreases_loop
+loop_again : tie.Need-loop-i-preserved invariant_loop decreases_loop
 loop_again c =
     let l = c.before.before.before.before in
     let s = start l in
     let codes = s.args.codes.now in
     let r = c.reverse.result in
-    let laid : (j : ℕ) → j < l.loop.i + 1 → Dec (j ≡ l.loop.i) → Distinct codes → get_or (set l.loop.opposite l.loop.i r) j 0 ≡ number_in (turned (get_or codes j 0)) codes
+    let laid : (j : ℕ) → j < l.loop-i.i + 1 → Dec (j ≡ l.loop-i.i) → Distinct codes → get_or (set l.loop-i.opposite l.loop-i.i r) j 0 ≡ number_in (turned (get_or codes j 0)) codes
     = λ j h d once. elim d [
-      | (yes e) ↦ rw (e, get_or-set_same l.loop.opposite l.loop.i r 0 (omega (arith, l.loop.invariant.1, s.pre.3))) (c.reverse.ensures once)
-      | (no n) ↦ rw (get_or-set_other l.loop.opposite l.loop.i j r 0 n) (l.loop.invariant.2 j (omega arith) once)
+      | (yes e) ↦ rw (e, get_or-set_same l.loop-i.opposite l.loop-i.i r 0 (omega (arith, l.loop-i.invariant.1, s.requires.3))) (c.reverse.ensures once)
+      | (no n) ↦ rw (get_or-set_other l.loop-i.opposite l.loop-i.i j r 0 n) (l.loop-i.invariant.2 j (omega arith) once)
     ] in
-    (omega arith, length-set l.loop.opposite l.loop.i r ∙ l.loop.invariant.1, λ j h. laid j h (ℕ_discrete j l.loop.i))
+    (omega arith, length-set l.loop-i.opposite l.loop-i.i r ∙ l.loop-i.invariant.1, λ j h. laid j h (ℕ_discrete j l.loop-i.i))
 
 returns : tie.Need-returns invariant_loop decreases_loop
 returns c = λ d.
     let l = c.before in
     let codes = (start l).args.codes.now in
-    ext_get_or 0 l.loop.opposite (turned_in codes) (l.loop.invariant.1 ∙ (start l).requires.3 ∙ sym (length-map codes (λ x. number_in (turned x) codes)))
+    ext_get_or 0 l.loop-i.opposite (turned_in codes) (l.loop-i.invariant.1 ∙ (start l).requires.3 ∙ sym (length-map codes (λ x. number_in (turned x) codes)))
     (λ i h.
-    let k : i < length codes = omega (arith, l.loop.invariant.1, (start l).requires.3) in
-    l.loop.invariant.2 i (omega arith) d ∙ sym (map_at (λ x. number_in (turned x) codes) codes i k))
+    let k : i < length codes = omega (arith, l.loop-i.invariant.1, (start l).requires.3) in
+    l.loop-i.invariant.2 i (omega arith) d ∙ sym (map_at (λ x. number_in (turned x) codes) codes i k))
 
 pub by_index_spec : {M : Type 1} → statement M
 by_index_spec =
@@ -85,9 +85,9 @@ by_index_spec =
     add_code
     reverse_requires
     (λ c. omega arith)
-    (λ c. let l = c.before.before.before.before in omega (arith, l.loop.invariant.1, (start l).requires.3))
+    (λ c. let l = c.before.before.before.before in omega (arith, l.loop-i.invariant.1, (start l).requires.3))
     (λ c. omega arith)
     (λ c. omega arith)
     loop_again
-    (λ c. c.before.loop.invariant.1)
+    (λ c. c.loop-i.invariant.1)
     returns)

@@ -16,9 +16,9 @@ compared : (x y : ℕ) (A : Type 0) → A → (b : Bool) → eqb x y ≡ b → T
 compared x y A a true e = (a, eqb-true x y e)
 compared x y A a false e = λ _ q. eqb-false x y e q
 
-returns_2 : tie.Need-returns-2
+returns_2 : tie.Need-returns
 returns_2 c =
-    let s = c.before.before.before in
+    let s = c in
     compared (get_or s.args.codes.now s.args.j 0) (get_or s.args.codes.now s.args.k 0) (s.args.j < s.args.k - s.args.k % 3) (omega arith) (eqb (get_or s.args.codes.now s.args.j 0) (get_or s.args.codes.now s.args.k 0)) refl
 
 pub is_repeat_spec : {M : Type 1} → statement M

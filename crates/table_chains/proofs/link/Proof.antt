@@ -14,15 +14,15 @@ use Rattle.table_chains.proofs.link.Tie as tie
 abbrev start : tie.After-head → tie.Start
 start c = c.before.before.before
 
-add_index : tie.Need-overflow-add-index
-add_index c = let s = start c.before in omega (arith, c.before.head.ensures, s.pre.4 s.args.k s.pre.1)
+add_index : tie.Need-overflow_add-index
+add_index c = let s = start c.before in omega (arith, c.head.ensures, s.requires.4 s.args.k s.requires.1)
 
 returns : tie.Need-returns
 returns c =
     let s = start c.before.before in
     let x = s.args.index.now in
     subst (λ h. Hung x (set (set x s.args.k (get_or x s.args.k 0 + h)) s.args.c (get_or (set x s.args.k (get_or x s.args.k 0 + h)) s.args.c 0 % 68_719_476_736 + (s.args.k + 1) * 68_719_476_736)) s.args.c s.args.k)
-    (sym c.before.before.head.ensures) (hung x s.args.c s.args.k s.pre.0 s.pre.1 s.pre.2 s.pre.3 s.pre.4)
+    (sym c.head.ensures) (hung x s.args.c s.args.k s.requires.0 s.requires.1 s.requires.2 s.requires.3 s.requires.4)
 
 pub link_spec : {M : Type 1} → statement M
 link_spec =

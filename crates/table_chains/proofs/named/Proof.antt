@@ -7,11 +7,11 @@ use Rattle.table_chains.proofs.named.Statement.{statement}
 use Rattle.table_chains.proofs.named.Tie as tie
 
 -- The first byte, and both.
-low : (c : tie.After-shared-slice-known) → let a = c.before.before.args in get_or a.lent.now (2 * a.i) 0 < 256
-low c = omega (arith, c.shared-slice-known.given (2 * c.before.before.args.i))
+low : (c : tie.After-shared_slice_known-1) → let a = c.args in get_or a.lent.now (2 * a.i) 0 < 256
+low c = omega (arith, c.shared_slice_known-1.given (2 * c.args.i))
 
-high : (c : tie.After-shared-slice-known2) → let a = c.before.before.before.args in get_or a.lent.now (2 * a.i + 1) 0 < 256
-high c = omega (arith, c.shared-slice-known2.given (2 * c.before.before.before.args.i + 1))
+high : (c : tie.After-shared_slice_known-2-1) → let a = c.args in get_or a.lent.now (2 * a.i + 1) 0 < 256
+high c = omega (arith, c.shared_slice_known-2-1.given (2 * c.args.i + 1))
 
 pub named_spec : {M : Type 1} → statement M
 named_spec =

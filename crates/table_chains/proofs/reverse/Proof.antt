@@ -25,24 +25,24 @@ only codes c (suc o) n f d =
     })
 
 -- ---- places: the entry of the function
-abbrev start : tie.After-side-in → tie.Start
+abbrev start : tie.After-side_in-r → tie.Start
 start c = c.before.before.before.before.before
 
-returns : tie.Need-returns
-returns c = let d = c.before in let a = (start d).args in only a.codes.now a.code d.side-in.result c.if1.true d.side-in.ensures
+returns : tie.Need-returns-then-r-ne0
+returns c = let d = c.before in let a = (start d).args in only a.codes.now a.code d.side_in-r.result c.if-r-ne0.true d.side_in-r.ensures
 
-side_of_requires : tie.Need-side-of-requires
+side_of_requires : tie.Need-side_of-requires
 side_of_requires c κs =
     let s = start c.before in
-    let w = s.pre.2 in
-    let l = s.pre.3 in
+    let w = s.requires.2 in
+    let l = s.requires.3 in
     (subst (ChainedTo s.args.index.now) (sym l.number) l.chained, omega (arith, w.0, l.number))
 
-returns_2 : tie.Need-returns-2
+returns_2 : tie.Need-returns
 returns_2 c = λ d.
     let s = start c.before.before in
     let codes = s.args.codes.now in
-    last_number codes s.args.code c.side-of.result d (linked_last codes s.args.index.now s.args.code c.side-of.result s.pre.3 c.side-of.ensures)
+    last_number codes s.args.code c.side_of.result d (linked_last codes s.args.index.now s.args.code c.side_of.result s.requires.3 c.side_of.ensures)
 
 pub reverse_spec : {M : Type 1} → statement M
 reverse_spec = tie.close (tie.spec (λ c κs. search rules) (λ c κs. search rules) returns side_of_requires returns_2)

@@ -5,11 +5,11 @@ use Rattle.table.proofs.Bounds.{millimetres_le, in_order, out_of_order}
 use Rattle.table_check.proofs.lower.Statement.{statement}
 use Rattle.table_check.proofs.lower.Tie as tie
 
-returns : tie.Need-returns
-returns c = let a = c.before.args in (c.before.requires.0, (in_order (millimetres a.m) (millimetres a.n) (millimetres_le a.m a.n (omega arith))).0)
+returns : tie.Need-returns-then-m-n
+returns c = let a = c.args in (c.requires.0, (in_order (millimetres a.m) (millimetres a.n) (millimetres_le a.m a.n (omega arith))).0)
 
-returns_2 : tie.Need-returns-2
-returns_2 c = let a = c.before.args in (c.before.requires.1, (out_of_order (millimetres a.m) (millimetres a.n) (millimetres_le a.n a.m (omega arith))).0)
+returns_2 : tie.Need-returns
+returns_2 c = let a = c.args in (c.requires.1, (out_of_order (millimetres a.m) (millimetres a.n) (millimetres_le a.n a.m (omega arith))).0)
 
 pub lower_spec : {M : Type 1} → statement M
 lower_spec = tie.close (tie.spec returns returns_2)

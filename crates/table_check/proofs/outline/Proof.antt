@@ -8,11 +8,11 @@ use Rattle.table_check.proofs.outline.Tie as tie
 
 returns : tie.Need-returns
 returns c =
-    let o = c.before.before.before.before.before.before in
-    let a = c.before.before.before.key.ensures in
-    let b = c.before.before.key2.ensures in
-    let d = c.before.key3.ensures in
-    let e = c.key4.ensures in
+    let o = c in
+    let a = c.key-a.ensures in
+    let b = c.key-b.ensures in
+    let d = c.key-c.ensures in
+    let e = c.key-d.ensures in
     round o.args.f o.requires.0 _ _ (stored_four o.args.from.now o.requires.1 a b d e) (stored_four o.args.to.now o.requires.2 b d e a)
 
 pub outline_spec : {M : Type 1} → statement M

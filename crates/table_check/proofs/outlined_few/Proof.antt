@@ -9,7 +9,7 @@ use Rattle.table_check.proofs.outlined_few.Tie as tie
 
 compared_requires : tie.Need-compared-requires
 compared_requires c κs =
-    let o = c.before.before.before.before.before.before.before.before in
+    let o = c in
     let p = o.requires in
     let k = o.args.keys.now in
     (p.0, p.1, length-take-le _ _ (omega (arith, p.2)), labels_long 64 k p.0.n p.0.three p.2, labels_set 64 k p.0.n p.0.three p.2)
@@ -19,8 +19,8 @@ outlined_few_spec =
     tie.close
     (tie.spec
     (λ c. search rules)
-    (λ c. sym (length-take-le _ _ (omega (arith, c.before.before.before.before.before.before.before.requires.2))))
+    (λ c. sym (length-take-le _ _ (omega (arith, c.requires.2))))
     (λ c. search rules)
-    (λ c. sym (length-take-le _ _ (omega (arith, c.before.before.before.before.before.before.before.before.requires.2))))
+    (λ c. sym (length-take-le _ _ (omega (arith, c.requires.2))))
     compared_requires
     (λ c. search rules))

@@ -19,10 +19,10 @@ use Rattle.whole_order.specs.Ascending.{Ascending}
 use Rattle.table_count.proofs.next_stop.Statement.{statement}
 use Rattle.table_count.proofs.next_stop.Tie as tie
 
-abbrev invariant_loop : tie.invariant_loop
+abbrev invariant_loop : tie.invariant-loop-i
 invariant_loop corners at u v i₀ i = (at ≤ i) × (i ≤ length corners) × ((j : ℕ) → at ≤ j → j < i → T (between (point_at (get_or corners j 0)) (pair u v)) → ⊥)
 
-abbrev decreases_loop : tie.decreases_loop
+abbrev decreases_loop : tie.decreases-loop-i
 decreases_loop corners at u v i₀ i = length corners - i
 
 -- No corner from one on that is not below v is strictly between.
@@ -42,65 +42,65 @@ told e t = subst T (sym t ∙ e) tt
 told_not : {b r : Bool} → r ≡ b → r ≡ false → T b → ⊥
 told_not e f t = subst T (sym e ∙ f) t
 
-loop_holds : tie.Need-loop-init invariant_loop decreases_loop
+loop_holds : tie.Need-loop-i-init invariant_loop decreases_loop
 loop_holds c = (omega arith, omega arith, λ j h k. absurd (omega arith))
 
-mul_if1 : tie.Need-overflow-mul-if1 invariant_loop decreases_loop
+mul_if1 : tie.Need-offset_bounds-corners-i invariant_loop decreases_loop
 mul_if1 c = search rules
 
-shared_slice_read_if1 : tie.Need-shared-slice-read-if1 invariant_loop decreases_loop
+shared_slice_read_if1 : tie.Need-bounds-corners-i invariant_loop decreases_loop
 shared_slice_read_if1 c = search rules
 
-returns : tie.Need-returns invariant_loop decreases_loop
+returns : tie.Need-returns-then-v-corners invariant_loop decreases_loop
 returns c =
-    let s = c.before.before.before.before.before in
-    let l = c.before.before.before.loop in
+    let s = c in
+    let l = c.loop-i in
     record {
       within = omega arith;
       onward = omega arith;
       stop = λ h. absurd (omega arith);
-      first = λ j h k t. past s.args.corners.now s.args.at l.i j s.args.u s.args.v s.requires.0 s.requires.4 c.if1.true l.invariant.2 h k t;
+      first = λ j h k t. past s.args.corners.now s.args.at l.i j s.args.u s.args.v s.requires.0 s.requires.4 c.if-v-corners.true l.invariant.2 h k t;
     }
 
-mul_on_way : tie.Need-overflow-mul-on-way invariant_loop decreases_loop
+mul_on_way : tie.Need-offset_bounds-corners-i-in-loop-i invariant_loop decreases_loop
 mul_on_way c = search rules
 
-shared_slice_read_on_way : tie.Need-shared-slice-read-on-way invariant_loop decreases_loop
+shared_slice_read_on_way : tie.Need-bounds-corners-i-in-loop-i invariant_loop decreases_loop
 shared_slice_read_on_way c = search rules
 
-on_way_requires : tie.Need-on-way-requires invariant_loop decreases_loop
+on_way_requires : tie.Need-on_way-requires invariant_loop decreases_loop
 on_way_requires c κs =
-    let s = c.before.before.before.before.before.before in
-    (all_at Key 0 s.args.corners.now c.before.before.before.before.loop.i s.requires.1 (omega arith), s.requires.2, s.requires.3)
+    let s = c in
+    (all_at Key 0 s.args.corners.now c.loop-i.i s.requires.1 (omega arith), s.requires.2, s.requires.3)
 
-returns_2 : tie.Need-returns-2 invariant_loop decreases_loop
+returns_2 : tie.Need-returns-then-on_way invariant_loop decreases_loop
 returns_2 c =
-    let l = c.before.before.before.before.before.before.loop in
+    let l = c.loop-i in
     record {
       within = omega arith;
       onward = l.invariant.0;
-      stop = λ h. told c.before.on-way.ensures c.if2.true;
+      stop = λ h. told c.on_way.ensures c.if-on_way.true;
       first = l.invariant.2;
     }
 
-add_i : tie.Need-overflow-add-i invariant_loop decreases_loop
+add_i : tie.Need-overflow_add-i invariant_loop decreases_loop
 add_i c = omega arith
 
-loop_less : tie.Need-loop-smaller invariant_loop decreases_loop
+loop_less : tie.Need-loop-i-smaller invariant_loop decreases_loop
 loop_less c = omega arith
 
-loop_again : tie.Need-loop-preserved invariant_loop decreases_loop
+loop_again : tie.Need-loop-i-preserved invariant_loop decreases_loop
 loop_again c =
-    let l = c.before.before.before.before.before.before.loop in
-    let s = c.before.before.before.before.before.before.before.before in (
+    let l = c.loop-i in
+    let s = c in (
       omega arith,
       omega arith,
-      λ j h k. below_more (λ j. s.args.at ≤ j → T (between (point_at (get_or s.args.corners.now j 0)) (pair s.args.u s.args.v)) → ⊥) l.i (λ j k h. l.invariant.2 j h k) (λ h. told_not c.before.on-way.ensures c.if2.false) j k h,
+      λ j h k. below_more (λ j. s.args.at ≤ j → T (between (point_at (get_or s.args.corners.now j 0)) (pair s.args.u s.args.v)) → ⊥) l.i (λ j k h. l.invariant.2 j h k) (λ h. told_not c.on_way.ensures c.if-on_way.false) j k h,
     )
 
-returns_3 : tie.Need-returns-3 invariant_loop decreases_loop
+returns_3 : tie.Need-returns invariant_loop decreases_loop
 returns_3 c =
-    let l = c.before.loop in
+    let l = c.loop-i in
     record {
       within = l.invariant.1;
       onward = l.invariant.0;

@@ -39,110 +39,110 @@ turn corners keys out i u v w h same p q r e =
 paired : {p q u v : ℕ} → p ≡ u → q ≡ v → p * 4096 + q ≡ u * 4096 + v
 paired e f = ap₂ (λ p q. p * 4096 + q) e f
 
-abbrev invariant_loop : tie.invariant_loop
+abbrev invariant_loop : tie.invariant-loop-i
 invariant_loop corners keys codes₀ i₀ codes i = (i ≤ length keys) × (length codes ≡ length codes₀) × ((m : ℕ) × (length keys ≡ i + 3 * m)) × (side_codes corners keys ≡ take i codes ++ side_codes corners (drop i keys))
 
-abbrev decreases_loop : tie.decreases_loop
+abbrev decreases_loop : tie.decreases-loop-i
 decreases_loop corners keys codes₀ i₀ codes i = length keys - i
 
-loop_holds : tie.Need-loop-init invariant_loop decreases_loop
-loop_holds c = (omega arith, refl, (c.before.before.before.requires.2.0, omega (arith, c.before.before.before.requires.2.1)), refl)
+loop_holds : tie.Need-loop-i-init invariant_loop decreases_loop
+loop_holds c = (omega arith, refl, (c.requires.2.0, omega (arith, c.requires.2.1)), refl)
 
-mul_place : tie.Need-overflow-mul-place invariant_loop decreases_loop
+mul_place : tie.Need-offset_bounds-keys-i invariant_loop decreases_loop
 mul_place c = omega arith
 
-shared_slice_read_place : tie.Need-shared-slice-read-place invariant_loop decreases_loop
+shared_slice_read_place : tie.Need-bounds-keys-i invariant_loop decreases_loop
 shared_slice_read_place c = omega arith
 
-place_requires : tie.Need-place-requires invariant_loop decreases_loop
-place_requires c κs = c.before.before.before.before.before.before.requires.0
+place_requires : tie.Need-place-a-requires invariant_loop decreases_loop
+place_requires c κs = c.requires.0
 
-add_place : tie.Need-overflow-add-place invariant_loop decreases_loop
+add_place : tie.Need-overflow_add-i invariant_loop decreases_loop
 add_place c = omega arith
 
-mul_place_2 : tie.Need-overflow-mul-place-2 invariant_loop decreases_loop
+mul_place_2 : tie.Need-offset_bounds-keys-i-in-loop-i invariant_loop decreases_loop
 mul_place_2 c = omega arith
 
-shared_slice_read_place_2 : tie.Need-shared-slice-read-place-2 invariant_loop decreases_loop
+shared_slice_read_place_2 : tie.Need-bounds-keys-i-in-loop-i invariant_loop decreases_loop
 shared_slice_read_place_2 c = omega arith
 
-place_requires_2 : tie.Need-place-requires-2 invariant_loop decreases_loop
-place_requires_2 c κs = c.before.before.before.before.before.before.before.before.requires.0
+place_requires_2 : tie.Need-place-b-requires invariant_loop decreases_loop
+place_requires_2 c κs = c.requires.0
 
-add_place_2 : tie.Need-overflow-add-place-2 invariant_loop decreases_loop
+add_place_2 : tie.Need-overflow_add-i-in-loop-i invariant_loop decreases_loop
 add_place_2 c = omega arith
 
-mul_place_3 : tie.Need-overflow-mul-place-3 invariant_loop decreases_loop
+mul_place_3 : tie.Need-offset_bounds-keys-i-in-loop-i-2 invariant_loop decreases_loop
 mul_place_3 c = omega arith
 
-shared_slice_read_place_3 : tie.Need-shared-slice-read-place-3 invariant_loop decreases_loop
+shared_slice_read_place_3 : tie.Need-bounds-keys-i-in-loop-i-2 invariant_loop decreases_loop
 shared_slice_read_place_3 c = omega arith
 
-place_requires_3 : tie.Need-place-requires-3 invariant_loop decreases_loop
-place_requires_3 c κs = c.before.before.before.before.before.before.before.before.before.before.requires.0
+place_requires_3 : tie.Need-place-c-requires invariant_loop decreases_loop
+place_requires_3 c κs = c.requires.0
 
 code_requires : tie.Need-code-requires invariant_loop decreases_loop
-code_requires c κs = omega (arith, c.before.before.before.before.place.ensures.1, c.before.before.place2.ensures.1)
+code_requires c κs = omega (arith, c.place-a.ensures.1, c.place-b.ensures.1)
 
-mul_codes : tie.Need-overflow-mul-codes invariant_loop decreases_loop
+mul_codes : tie.Need-offset_bounds-codes-i invariant_loop decreases_loop
 mul_codes c = omega arith
 
-slice_write_codes : tie.Need-slice-write-codes invariant_loop decreases_loop
+slice_write_codes : tie.Need-bounds-codes-i invariant_loop decreases_loop
 slice_write_codes c = omega arith
 
-code_requires_2 : tie.Need-code-requires-2 invariant_loop decreases_loop
-code_requires_2 c κs = omega (arith, c.before.before.before.place2.ensures.1, c.before.place3.ensures.1)
+code_requires_2 : tie.Need-code-requires-in-loop-i invariant_loop decreases_loop
+code_requires_2 c κs = omega (arith, c.place-b.ensures.1, c.place-c.ensures.1)
 
-add_codes : tie.Need-overflow-add-codes invariant_loop decreases_loop
+add_codes : tie.Need-overflow_add-codes invariant_loop decreases_loop
 add_codes c = omega arith
 
-mul_codes_2 : tie.Need-overflow-mul-codes-2 invariant_loop decreases_loop
+mul_codes_2 : tie.Need-offset_bounds-codes-i-in-loop-i invariant_loop decreases_loop
 mul_codes_2 c = omega arith
 
-slice_write_codes_2 : tie.Need-slice-write-codes-2 invariant_loop decreases_loop
+slice_write_codes_2 : tie.Need-bounds-codes-i-in-loop-i invariant_loop decreases_loop
 slice_write_codes_2 c = simp length-set (omega arith)
 
-code_requires_3 : tie.Need-code-requires-3 invariant_loop decreases_loop
-code_requires_3 c κs = omega (arith, c.before.before.place3.ensures.1, c.before.before.before.before.before.before.place.ensures.1)
+code_requires_3 : tie.Need-code-requires-in-loop-i-2 invariant_loop decreases_loop
+code_requires_3 c κs = omega (arith, c.place-c.ensures.1, c.place-a.ensures.1)
 
-add_codes_2 : tie.Need-overflow-add-codes-2 invariant_loop decreases_loop
+add_codes_2 : tie.Need-overflow_add-codes-in-loop-i invariant_loop decreases_loop
 add_codes_2 c = omega arith
 
-mul_codes_3 : tie.Need-overflow-mul-codes-3 invariant_loop decreases_loop
+mul_codes_3 : tie.Need-offset_bounds-codes-i-in-loop-i-2 invariant_loop decreases_loop
 mul_codes_3 c = omega arith
 
-slice_write_codes_3 : tie.Need-slice-write-codes-3 invariant_loop decreases_loop
+slice_write_codes_3 : tie.Need-bounds-codes-i-in-loop-i-2 invariant_loop decreases_loop
 slice_write_codes_3 c = simp length-set (omega arith)
 
-add_i : tie.Need-overflow-add-i invariant_loop decreases_loop
+add_i : tie.Need-overflow_add-i-in-loop-i-2 invariant_loop decreases_loop
 add_i c = omega arith
 
-loop_less : tie.Need-loop-smaller invariant_loop decreases_loop
+loop_less : tie.Need-loop-i-smaller invariant_loop decreases_loop
 loop_less c = omega arith
 
-loop_again : tie.Need-loop-preserved invariant_loop decreases_loop
+loop_again : tie.Need-loop-i-preserved invariant_loop decreases_loop
 loop_again c =
-    let l = c.before.before.before.before.before.before.before.before.before.before.loop in
-    let a = c.before.before.before.before.before.before.before.before.before.before.before.before.before.before.args in
+    let l = c.loop-i in
+    let a = c.args in
     let corners = a.corners.now in
     let keys = a.keys.now in
-    let x = c.before.before.before.before.before.before.before.place.ensures.0 in
-    let y = c.before.before.before.before.before.place2.ensures.0 in
-    let z = c.before.before.before.place3.ensures.0 in (
+    let x = c.place-a.ensures.0 in
+    let y = c.place-b.ensures.0 in
+    let z = c.place-c.ensures.0 in (
       omega arith,
       simp length-set l.invariant.1,
       (l.invariant.2.0 - 1, omega arith),
-      turn corners keys l.codes l.i c.before.before.code.result c.before.code2.result c.code3.result (omega arith) (omega arith) (c.before.before.code.ensures ∙ paired x y) (c.before.code2.ensures ∙ paired y z) (c.code3.ensures ∙ paired z x) l.invariant.3,
+      turn corners keys l.codes l.i c.code.result c.code-in-loop-i.result c.code-in-loop-i-2.result (omega arith) (omega arith) (c.code.ensures ∙ paired x y) (c.code-in-loop-i.ensures ∙ paired y z) (c.code-in-loop-i-2.ensures ∙ paired z x) l.invariant.3,
     )
 
-same_length : tie.Need-same-length invariant_loop decreases_loop
-same_length c = c.before.loop.invariant.1
+same_length : tie.Need-shape_of-codes invariant_loop decreases_loop
+same_length c = c.loop-i.invariant.1
 
 returns : tie.Need-returns invariant_loop decreases_loop
 returns c =
-    let l = c.before.loop in
-    let corners = c.before.before.before.before.before.args.corners.now in
-    let keys = c.before.before.before.before.before.args.keys.now in
+    let l = c.loop-i in
+    let corners = c.args.corners.now in
+    let keys = c.args.keys.now in
     all_stored (side_codes corners keys) l.codes (side_codes corners (drop l.i keys)) l.i (omega arith) (ap (side_codes corners) (drop_of_length-le keys {i = l.i} (omega arith))) l.invariant.3
 
 pub codes_spec : {M : Type 1} → statement M

@@ -27,16 +27,16 @@ stopped corners order a b r h g s true e =
     end_clear corners order (get_or corners a 0) (get_or corners b 0) way a r none s (leb-true (length corners) r e)
 stopped corners order a b r h g s false e = λ clear. clear _ (corner_among corners r (leb-false (length corners) r e)) (s.stop (leb-false (length corners) r e))
 
-next_stop_requires : tie.Need-next-stop-requires
+next_stop_requires : tie.Need-next_stop-requires
 next_stop_requires c κs =
-    let s = c.before.before.before in
+    let s = c in
     let l = s.args.corners.now in
     (s.requires.0, s.requires.1, all_at Key 0 l s.args.a s.requires.1 (omega arith), all_at Key 0 l s.args.b s.requires.1 (omega arith), ascending_below l s.args.a s.args.b s.requires.0 s.requires.2 s.requires.3, omega arith)
 
 returns : tie.Need-returns
 returns c =
-    let s = c.before.before.before.before in
-    stopped s.args.corners.now s.requires.0 s.args.a s.args.b c.next-stop.result s.requires.2 s.requires.3 c.next-stop.ensures (leb (length s.args.corners.now) c.next-stop.result) refl
+    let s = c in
+    stopped s.args.corners.now s.requires.0 s.args.a s.args.b c.next_stop.result s.requires.2 s.requires.3 c.next_stop.ensures (leb (length s.args.corners.now) c.next_stop.result) refl
 
 pub is_clear_spec : {M : Type 1} → statement M
 is_clear_spec =

@@ -24,16 +24,16 @@ abbrev start : tie.After-codes → tie.Start
 start c = c.before.before.before.before.before.before.before.before
 
 abbrev at_codes : tie.After-unlinked → tie.After-codes
-at_codes c = c.before.before.before.before.before
+at_codes c = c.before.before.before.before
 
-abbrev at_unlinked : tie.After-repeated-side → tie.After-unlinked
-at_unlinked c = c.before.before.before.before.before
+abbrev at_unlinked : tie.After-repeated_side-r → tie.After-unlinked
+at_unlinked c = c.before.before.before.before
 
-abbrev at_repeated : tie.After-opposites → tie.After-repeated-side
-at_repeated c = c.before.before.before.before.before.before.before
+abbrev at_repeated : tie.After-opposites → tie.After-repeated_side-r
+at_repeated c = c.before.before.before.before.before
 
 abbrev at_opposites : tie.After-notes → tie.After-opposites
-at_opposites c = c.before.before.before.before.before.before
+at_opposites c = c.before.before.before.before
 
 -- ---- what stands there: the corners, and the codes laid down
 abbrev keys : tie.After-codes → List ℕ
@@ -43,7 +43,7 @@ abbrev codes : tie.After-codes → List ℕ
 codes c = codes_of (ascending (keys c)) (keys c) (tails_of (keys c))
 
 abbrev laid : tie.After-codes → List ℕ
-laid c = c.codes.new.1.1.0
+laid c = c.codes.new.codes
 
 coded : (c : tie.After-codes) → laid c ≡ codes c
 coded c = c.codes.ensures ∙ ap (λ o. codes_of o (keys c) (tails_of (keys c))) (start c).requires.3
@@ -61,69 +61,69 @@ few : (c : tie.After-codes) → All (Within (length (laid c))) (laid c)
 few c = subst (λ l. All (Within (length l)) l) (sym (coded c)) (codes_few (keys c) (n c) (three c) (start c).requires.2)
 
 -- All sides hang in chains where none repeats.
-linked : (c : tie.After-opposites) → let r = at_repeated c in LinkedTo (laid (at_codes (at_unlinked r))) r.repeated-side.last.1.0 (length (laid (at_codes (at_unlinked r))))
-linked c = (at_repeated c).repeated-side.ensures.1 c.before.before.before.before.if1.false
+linked : (c : tie.After-opposites) → let r = at_repeated c in LinkedTo (laid (at_codes (at_unlinked r))) r.repeated_side-r.new.index (length (laid (at_codes (at_unlinked r))))
+linked c = (at_repeated c).repeated_side-r.ensures.1 c.if-r-ne0.false
 
 codes_requires : tie.Need-codes-requires
 codes_requires c κs =
-    let s = c.before.before.before.before.before.before.before in
+    let s = c in
     let k = s.args.keys.now in
     (subst Ascending (sym s.requires.3) (ascending_is k), omega (arith, s.requires.2, ap length s.requires.3, length_ascending k), s.requires.1, s.requires.4)
 
 unlinked_requires : tie.Need-unlinked-requires
-unlinked_requires c κs = let d = c.before.before.before.before in (few d, omega (arith, as_many d, (start d).requires.2), (start d).requires.5 ∙ sym (as_many d))
+unlinked_requires c κs = let d = c.before.before.before in (few d, omega (arith, as_many d, (start d).requires.2), (start d).requires.5 ∙ sym (as_many d))
 
-repeated_side_requires : tie.Need-repeated-side-requires
-repeated_side_requires c κs = let u = c.before.before.before.before in let d = at_codes u in (few d, omega (arith, as_many d, (start d).pre.2), u.unlinked.ensures)
+repeated_side_requires : tie.Need-repeated_side-r-requires
+repeated_side_requires c κs = let u = c.before.before.before in let d = at_codes u in (few d, omega (arith, as_many d, (start d).requires.2), u.unlinked.ensures)
 
 -- A side that repeats another breaks rule B.
-repeats : (c : tie.After-repeated-side) → let d = at_codes (at_unlinked c) in FirstRepeat (codes d) c.repeated-side.result
-repeats c = let d = at_codes (at_unlinked c) in subst (λ l. FirstRepeat l c.repeated-side.result) (coded d) c.repeated-side.ensures.0
+repeats : (c : tie.After-repeated_side-r) → let d = at_codes (at_unlinked c) in FirstRepeat (codes d) c.repeated_side-r.result
+repeats c = let d = at_codes (at_unlinked c) in subst (λ l. FirstRepeat l c.repeated_side-r.result) (coded d) c.repeated_side-r.ensures.0
 
-returns : tie.Need-returns
+returns : tie.Need-returns-then-r-ne0
 returns c =
     let r = c.before.before.before in
     let d = at_codes (at_unlinked r) in (
-      repeat_is (keys d) (n d) (three d) (start d).pre.2 r.repeated-side.result (repeats r),
-      λ once. absurd (c.if1.true (repeat_none (keys d) (n d) (three d) (start d).pre.2 r.repeated-side.result (repeats r) once)),
+      repeat_is (keys d) (n d) (three d) (start d).requires.2 r.repeated_side-r.result (repeats r),
+      λ once. absurd (c.if-r-ne0.true (repeat_none (keys d) (n d) (three d) (start d).requires.2 r.repeated_side-r.result (repeats r) once)),
     )
 
 opposites_requires : tie.Need-opposites-requires
 opposites_requires c κs =
-    let r = c.before.before.before.before.before.before in
+    let r = c.before.before.before.before in
     let d = at_codes (at_unlinked r) in
-    (few d, omega (arith, as_many d, (start d).pre.2), r.repeated-side.ensures.1 c.before.before.before.if1.false, (start d).pre.6 ∙ sym (as_many d))
+    (few d, omega (arith, as_many d, (start d).requires.2), r.repeated_side-r.ensures.1 c.if-r-ne0.false, (start d).requires.6 ∙ sym (as_many d))
 
 notes_requires : tie.Need-notes-requires
 notes_requires c κs =
-    let o = c.before.before.before.before.before in
+    let o = c.before.before.before in
     let d = at_codes (at_unlinked (at_repeated o)) in
     let k = keys d in (
-      subst Ascending (sym (start d).pre.3) (ascending_is k),
-      subst (All Key) (sym (start d).pre.3) (all_ascending Key k (start d).pre.0),
-      subst (λ z. All (Within (length z)) (laid d)) (sym (start d).pre.3) (subst (All (Within (length (ascending k)))) (sym (coded d)) (codes_within k (n d) (three d) (start d).pre.2)),
-      o.opposites.auto.1.1.1.0 ∙ (start d).pre.6 ∙ sym (as_many d),
+      subst Ascending (sym (start d).requires.3) (ascending_is k),
+      subst (All Key) (sym (start d).requires.3) (all_ascending Key k (start d).requires.0),
+      subst (λ z. All (Within (length z)) (laid d)) (sym (start d).requires.3) (subst (All (Within (length (ascending k)))) (sym (coded d)) (codes_within k (n d) (three d) (start d).requires.2)),
+      o.opposites.auto.opposite ∙ (start d).requires.6 ∙ sym (as_many d),
       (linked o).number,
       (linked o).unnoted,
     )
 
-returns_2 : tie.Need-returns-2
+returns_2 : tie.Need-returns
 returns_2 c =
     let m = c.before.before in
     let o = at_opposites m in
     let r = at_repeated o in
     let d = at_codes (at_unlinked r) in
     let k = keys d in
-    let x = r.repeated-side.last.1.0 in
-    let y = m.notes.new.1.1.1.0 in
-    let z = o.opposites.last.1.1.1.0 in
+    let x = r.repeated_side-r.new.index in
+    let y = m.notes.new.index in
+    let z = o.opposites.new.opposite in
     let linked' = subst (λ l. LinkedTo l x (length l)) (coded d) (linked o) in
-    let noted = subst (λ l. NotedTo (ascending k) l x y (length l)) (coded d) (subst (λ l. NotedTo l (laid d) x y (length (laid d))) (start d).pre.3 m.notes.ensures) in (
-      sym o.before.before.before.before.if1.left ∙ repeat_is k (n d) (three d) (start d).pre.2 r.repeated-side.result (repeats r),
+    let noted = subst (λ l. NotedTo (ascending k) l x y (length l)) (coded d) (subst (λ l. NotedTo l (laid d) x y (length (laid d))) (start d).requires.3 m.notes.ensures) in (
+      sym o.if-r-ne0.false ∙ repeat_is k (n d) (three d) (start d).requires.2 r.repeated_side-r.result (repeats r),
       λ once.
-          subst (λ l. Indexed k l y z) (sym (start d).pre.3)
-          (subst (Indexed k (ascending k) y) (sym (o.opposites.ensures (subst Distinct (sym (coded d)) (codes_distinct k (n d) (three d) (start d).pre.2 once)) ∙ ap turned_in (coded d)))
-          (indexing k (n d) (three d) (start d).pre.2 x y linked' noted (start d).pre.0 once)),
+          subst (λ l. Indexed k l y z) (sym (start d).requires.3)
+          (subst (Indexed k (ascending k) y) (sym (o.opposites.ensures (subst Distinct (sym (coded d)) (codes_distinct k (n d) (three d) (start d).requires.2 once)) ∙ ap turned_in (coded d)))
+          (indexing k (n d) (three d) (start d).requires.2 x y linked' noted (start d).requires.0 once)),
     )
 
 pub lay_sides_spec : {M : Type 1} → statement M

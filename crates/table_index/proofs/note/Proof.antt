@@ -16,14 +16,14 @@ use Rattle.table_index.proofs.note.Tie as tie
 clear_flip : (corners : List ℕ) (u v : ℕ) → ClearOf corners u v → ClearOf corners v u
 clear_flip corners u v f p a t = f p a (between_flip p (pair v u) t)
 
-returns : tie.Need-returns
-returns c = inr (refl, told_yes _ _ c.before.is-clear.result (ap not c.if2.true) c.before.is-clear.ensures)
+returns : tie.Need-returns-then-is_clear
+returns c = inr (refl, told_yes _ _ c.is_clear.result (ap not c.if-is_clear.true) c.is_clear.ensures)
 
-returns_2 : tie.Need-returns-2
+returns_2 : tie.Need-returns-then-is_clear-2
 returns_2 c =
-    let s = c.before.before.before.before.before.before in
+    let s = c in
     let l = s.args.corners.now in
-    inr (refl, clear_flip l (get_or l (s.args.code % 4096) 0) (get_or l (s.args.code / 4096) 0) (told_yes _ _ c.before.is-clear2.result (ap not c.if5.true) c.before.is-clear2.ensures))
+    inr (refl, clear_flip l (get_or l (s.args.code % 4096) 0) (get_or l (s.args.code / 4096) 0) (told_yes _ _ c.is_clear-then-b-a.result (ap not c.if-is_clear-2.true) c.is_clear-then-b-a.ensures))
 
 pub note_spec : {M : Type 1} → statement M
 note_spec =

@@ -11,7 +11,7 @@ use Rattle.table_labels.proofs.agrees.Statement.{statement}
 use Rattle.table_labels.proofs.agrees.Tie as tie
 
 -- ---- places: the entry of the function
-abbrev start : tie.After-shared-slice-known6 → tie.Start
+abbrev start : tie.After-shared_slice_known-6-1 → tie.Start
 start c = c.before.before.before.before.before.before.before
 
 -- The count is the share exactly if the two sums are equal.
@@ -20,20 +20,20 @@ held : (c : tie.After-beyond) → let a = (start c.before).args in (get_or a.cou
 held c = let a = (start c.before).args in net_is (get_or a.counts.now a.k 0) (across a.labels.now (get_or a.opposite.now a.k 0)) (mark a.labels.now (a.k / 3))
 
 beyond_requires : tie.Need-beyond-requires
-beyond_requires c κs = let o = start c in λ j e. omega (arith, o.pre.0.sides o.args.k j o.pre.1 e, o.pre.0.three)
+beyond_requires c κs = let o = start c in λ j e. omega (arith, o.requires.0.sides o.args.k j o.requires.1 e, o.requires.0.three)
 
-add_if1 : tie.Need-overflow-add-if1
-add_if1 c = let o = start c.before in omega (arith, c.beyond.ensures.1, o.pre.0.room o.args.k)
+add_if1 : tie.Need-overflow_add-counts
+add_if1 c = let o = start c.before in omega (arith, c.beyond.ensures.1, o.requires.0.room o.args.k)
 
-returns : tie.Need-returns
+returns : tie.Need-returns-then-counts-k
 returns c =
     let b = c.before in
-    λ s. c.if1.true (omega (arith, (held b).1 s, b.beyond.ensures.0, b.before.before.before.one.ensures.0))
+    λ s. c.if-counts-k.true (omega (arith, (held b).1 s, b.beyond.ensures.0, b.one-own.ensures.0))
 
-returns_2 : tie.Need-returns-2
+returns_2 : tie.Need-returns
 returns_2 c =
     let b = c.before in
-    (held b).0 (omega (arith, c.if1.false, b.beyond.ensures.0, b.before.before.before.one.ensures.0))
+    (held b).0 (omega (arith, c.if-counts-k.false, b.beyond.ensures.0, b.one-own.ensures.0))
 
 pub agrees_spec : {M : Type 1} → statement M
 agrees_spec =

@@ -11,22 +11,22 @@ use Rattle.table_labels.proofs.beyond.Tie as tie
 before : (o : ℕ) → (o ≡ 0 → ⊥) → o ≡ suc (o - 1)
 before o h = omega arith
 
-returns : tie.Need-returns
-returns c = (sym (ap (across c.before.before.args.labels.now) c.if1.true), omega arith)
+returns : tie.Need-returns-then-o-eq0
+returns c = (sym (ap (across c.args.labels.now) c.if-o-eq0.true), omega arith)
 
-sub-one : tie.Need-overflow-sub-one
-sub-one c = search rules
+sub_one : tie.Need-overflow_sub-o
+sub_one c = search rules
 
-shared_slice_read_one : tie.Need-shared-slice-read-one
-shared_slice_read_one c = c.before.before.before.requires (c.before.before.before.args.o - 1) (before c.before.before.before.args.o c.before.if1.false)
+shared_slice_read_one : tie.Need-bounds-labels-o
+shared_slice_read_one c = c.requires (c.args.o - 1) (before c.args.o c.if-o-eq0.false)
 
 one_requires : tie.Need-one-requires
 one_requires c κs = search rules
 
-returns_2 : tie.Need-returns-2
+returns_2 : tie.Need-returns
 returns_2 c =
-    let o = c.before.before.before.before.args.o in
-    (c.one.ensures.0 ∙ sym (ap (across c.before.before.before.before.args.labels.now) (before o c.before.before.if1.false)), c.one.ensures.1)
+    let o = c.args.o in
+    (c.one.ensures.0 ∙ sym (ap (across c.args.labels.now) (before o c.if-o-eq0.false)), c.one.ensures.1)
 
 pub beyond_spec : {M : Type 1} → statement M
-beyond_spec = tie.close (tie.spec returns sub-one shared_slice_read_one one_requires returns_2)
+beyond_spec = tie.close (tie.spec returns sub_one shared_slice_read_one one_requires returns_2)

@@ -6,7 +6,6 @@ use native.Mathlib.Omega.{arith}
 use borrow.Author.Rules.{rules}
 use lib.ListN.{length, get_or, set, take}
 use Rattle.whole.proofs.Sums.{all_at}
-use Rattle.whole.proofs.Tests.{turned_off, turned_on}
 use Rattle.plane.specs.Keys.{Key}
 use Rattle.whole_order.specs.Ascending.{IsIn, place_of}
 use Rattle.whole_order.proofs.Ascending.{place_found}
@@ -16,13 +15,13 @@ use Rattle.table_lines.proofs.mark_edge.Statement.{statement}
 use Rattle.table_lines.proofs.mark_edge.Tie as tie
 
 -- ---- places: the entry of the function, and where both ends are looked at
-abbrev start : tie.Else1 → tie.Start
+abbrev start : tie.Else-done-j → tie.Start
 start c = c.before.before.before.before.before.before.before.before
 
-abbrev looked : tie.Else2 → tie.After-both-on
+abbrev looked : tie.Else-not-both_on → tie.After-both_on
 looked c = c.before
 
-abbrev entry : tie.Else2 → tie.Start
+abbrev entry : tie.Else-not-both_on → tie.Start
 entry c = start (looked c).before.before.before
 
 -- ---- what stands there
@@ -57,58 +56,58 @@ nothing s e =
     )
 
 -- ---- the needs
-returns : tie.Need-returns
+returns : tie.Need-returns-then-done-j
 returns c =
     let s = c.before.before.before.before.before.before.before.before in
     let a = s.args in
-    let n = nothing s (not_so (lie a.a a.b (get_or a.from.now a.j 0) (get_or a.to.now a.j 0)) (s.requires.5 c.if1.true)) in
+    let n = nothing s (not_so (lie a.a a.b (get_or a.from.now a.j 0) (get_or a.to.now a.j 0)) (s.requires.5 c.if-done-j.true)) in
     (n.0, n.1, n.2, s.requires.8, n.3)
 
-both_on_requires : tie.Need-both-on-requires
+both_on_requires : tie.Need-both_on-requires
 both_on_requires c κs =
     let s = start c.before.before in
-    (s.pre.1, s.pre.2, all_at Key 0 s.args.from.now s.args.j s.pre.0.from_keys s.pre.3, all_at Key 0 s.args.to.now s.args.j s.pre.0.to_keys (ends_too s))
+    (s.requires.1, s.requires.2, all_at Key 0 s.args.from.now s.args.j s.requires.0.from_keys s.requires.3, all_at Key 0 s.args.to.now s.args.j s.requires.0.to_keys (ends_too s))
 
-returns_2 : tie.Need-returns-2
+returns_2 : tie.Need-returns-then-not-both_on
 returns_2 c =
     let s = start c.before.before.before.before in
-    let n = nothing s (sym c.before.both-on.ensures ∙ turned_off c.before.both-on.result c.if2.true) in
-    (n.0, n.1, n.2, s.pre.8, n.3)
+    let n = nothing s (sym c.both_on.ensures ∙ c.if-not-both_on.true) in
+    (n.0, n.1, n.2, s.requires.8, n.3)
 
-note_requires : tie.Need-note-requires
+note_requires : tie.Need-note-x-requires
 note_requires c κs =
     let s = entry c.before.before in
     let a = s.args in
-    (s.pre.0.ascending, from_stands s, s.pre.6.number, begins_room a.corners.now a.a a.b a.from.now a.to.now a.j (place_of (get_or a.from.now a.j 0) a.corners.now) a.begins.now s.pre.0.few (from_place s) s.pre.6)
+    (s.requires.0.ascending, from_stands s, s.requires.6.number, begins_room a.corners.now a.a a.b a.from.now a.to.now a.j (place_of (get_or a.from.now a.j 0) a.corners.now) a.begins.now s.requires.0.few (from_place s) s.requires.6)
 
-note_requires_2 : tie.Need-note-requires-2
+note_requires_2 : tie.Need-note-y-requires
 note_requires_2 c κs =
     let s = entry c.before.before.before.before.before.before.before in
     let a = s.args in
-    (s.pre.0.ascending, to_stands s, s.pre.7.number, ends_room a.corners.now a.a a.b a.from.now a.to.now a.j (place_of (get_or a.to.now a.j 0) a.corners.now) a.ends.now s.pre.0.few (to_place s) s.pre.7)
+    (s.requires.0.ascending, to_stands s, s.requires.7.number, ends_room a.corners.now a.a a.b a.from.now a.to.now a.j (place_of (get_or a.to.now a.j 0) a.corners.now) a.ends.now s.requires.0.few (to_place s) s.requires.7)
 
-slice_write_done : tie.Need-slice-write-done
-slice_write_done c = let s = entry c.before.before.before.before.before.before.before.before.before.before in omega (arith, s.pre.4, s.pre.3)
+slice_write_done : tie.Need-bounds-done-j-2
+slice_write_done c = let s = entry c.before.before.before.before.before.before.before.before.before.before in omega (arith, s.requires.4, s.requires.3)
 
 widened_requires : tie.Need-widened-requires
 widened_requires c κs =
     let s = entry c.before.before.before.before.before.before.before.before.before.before in
-    (omega (arith, c.before.before.before.before.before.before.before.note.ensures.0, from_place s, s.pre.0.few_corners), omega (arith, c.before.before.note2.ensures.0, to_place s, s.pre.0.few_corners))
+    (omega (arith, c.note-x.ensures.0, from_place s, s.requires.0.few_corners), omega (arith, c.note-y.ensures.0, to_place s, s.requires.0.few_corners))
 
-returns_3 : tie.Need-returns-3
+returns_3 : tie.Need-returns
 returns_3 c =
     let d = c.before.before.before.before.before.before.before.before.before.before.before in
     let s = entry d in
     let a = s.args in
-    let x = c.before.before.before.before.before.before.before.before.note in
-    let y = c.before.before.before.note2 in
+    let x = c.note-x in
+    let y = c.note-y in
     let w = c.widened.ensures in
-    let on = sym (looked d).both-on.ensures ∙ turned_on (looked d).both-on.result d.if2.false in (
-      begins_on a.corners.now a.a a.b a.from.now a.to.now a.j s.pre.3 (ends_too s) a.begins.now x.new.1.1.0 x.ensures.1 on s.pre.6,
-      ends_on a.corners.now a.a a.b a.from.now a.to.now a.j s.pre.3 (ends_too s) a.ends.now y.new.1.1.0 y.ensures.1 on s.pre.7,
+    let on = sym (looked d).both_on.ensures ∙ d.if-not-both_on.false in (
+      begins_on a.corners.now a.a a.b a.from.now a.to.now a.j s.requires.3 (ends_too s) a.begins.now x.new.marks x.ensures.1 on s.requires.6,
+      ends_on a.corners.now a.a a.b a.from.now a.to.now a.j s.requires.3 (ends_too s) a.ends.now y.new.marks y.ensures.1 on s.requires.7,
       sym (ap (λ x. cond x (set a.done.now a.j true) a.done.now) on),
-      w.no_more (length a.corners.now) s.pre.8 (omega (arith, x.ensures.0, from_place s)) (omega (arith, y.ensures.0, to_place s)),
-      spans_on a.corners.now a.a a.b a.from.now a.to.now a.j a.span.low a.span.stop c.widened.result.low c.widened.result.stop x.result y.result x.ensures.0 y.ensures.0 w s.pre.9,
+      w.no_more (length a.corners.now) s.requires.8 (omega (arith, x.ensures.0, from_place s)) (omega (arith, y.ensures.0, to_place s)),
+      spans_on a.corners.now a.a a.b a.from.now a.to.now a.j a.span.low a.span.stop c.widened.result.low c.widened.result.stop x.result y.result x.ensures.0 y.ensures.0 w s.requires.9,
     )
 
 pub mark_edge_spec : {M : Type 1} → statement M

@@ -6,10 +6,10 @@ use Rattle.table_lines.proofs.widened.Tie as tie
 
 returns : tie.Need-returns
 returns c =
-    let l = c.before.before.before.least.ensures in
-    let m = c.before.before.least2.ensures in
-    let g = c.before.greatest.ensures in
-    let h = c.greatest2.ensures in
+    let l = c.least.ensures in
+    let m = c.least-2.ensures in
+    let g = c.greatest.ensures in
+    let h = c.greatest-2.ensures in
     record {
       lower = m.0;
       low_x = omega (arith, l, m);

@@ -34,21 +34,21 @@ wiped_all marks k stop h w = all_from (λ n. n ≡ 0) 0 marks (λ m l. go m l (d
     go m l (yes b) = w m l (inr b)
     go m l (no n) = w m l (inl (omega arith))
 
-abbrev invariant_loop : tie.invariant_loop
+abbrev invariant_loop : tie.invariant-loop-k
 invariant_loop marks₀ low stop k₀ marks k = (length marks ≡ length marks₀) × Wiped marks k stop
 
-abbrev decreases_loop : tie.decreases_loop
+abbrev decreases_loop : tie.decreases-loop-k
 decreases_loop marks₀ low stop k₀ marks k = stop - k
 
-loop_again : tie.Need-loop-preserved invariant_loop decreases_loop
+loop_again : tie.Need-loop-k-preserved invariant_loop decreases_loop
 loop_again c =
-    let l = c.before.loop in
-    (length-set l.marks l.k 0 ∙ l.invariant.0, wiped_more l.marks l.k c.before.before.args.stop (omega (arith, l.invariant.0, c.before.before.requires.0)) l.invariant.1)
+    let l = c.loop-k in
+    (length-set l.marks l.k 0 ∙ l.invariant.0, wiped_more l.marks l.k c.args.stop (omega (arith, l.invariant.0, c.requires.0)) l.invariant.1)
 
 returns : tie.Need-returns invariant_loop decreases_loop
 returns c =
-    let l = c.before.loop in
-    (l.invariant.0, wiped_all l.marks l.k c.before.before.args.stop (omega arith) l.invariant.1)
+    let l = c.loop-k in
+    (l.invariant.0, wiped_all l.marks l.k c.args.stop (omega arith) l.invariant.1)
 
 pub wipe_spec : {M : Type 1} → statement M
 wipe_spec =
@@ -57,10 +57,10 @@ wipe_spec =
     invariant_loop
     decreases_loop
     (λ c. (refl, c.requires.1))
-    (λ c. omega (arith, c.before.loop.invariant.0, c.before.before.requires.0))
-    (λ c. omega (arith, c.before.loop.invariant.0, c.before.before.requires.0))
+    (λ c. omega (arith, c.loop-k.invariant.0, c.requires.0))
+    (λ c. omega (arith, c.loop-k.invariant.0, c.requires.0))
     (λ c. omega arith)
     (λ c. omega arith)
     loop_again
-    (λ c. c.before.loop.invariant.0)
+    (λ c. c.loop-k.invariant.0)
     returns)

@@ -8,30 +8,30 @@ use Rattle.table_loose.proofs.come.Statement.{statement}
 use Rattle.table_loose.proofs.come.Tie as tie
 
 -- ---- places: the entry of the function, and the call of `place_of`
-abbrev start : tie.After-place-of → tie.Start
-start c = c.before.before.before.before.before.before
+abbrev start : tie.After-place_of-k → tie.Start
+start c = c.before.before.before.before
 
 -- ---- the needs
-returns : tie.Need-returns
+returns : tie.Need-returns-then-u-v
 returns c =
-    let a = c.before.before.before.args in
-    (omega arith, came_none a.u a.v (pairs (take a.n a.us.now) (take a.n a.vs.now)) c.if1.true)
+    let a = c.args in
+    (omega arith, came_none a.u a.v (pairs (take a.n a.us.now) (take a.n a.vs.now)) c.if-u-v.true)
 
-returns_2 : tie.Need-returns-2
+returns_2 : tie.Need-returns-then-k-n
 returns_2 c =
     let s = start c.before in
     let a = s.args in
-    (omega arith, put_came a.us.now a.vs.now a.n a.u a.v c.before.before.before.before.if1.false s.pre.0 s.pre.1 (c.before.place-of.ensures.2 c.if2.true))
+    (omega arith, put_came a.us.now a.vs.now a.n a.u a.v c.if-u-v.false s.requires.0 s.requires.1 (c.place_of-k.ensures.2 c.if-k-n.true))
 
-returns_3 : tie.Need-returns-3
+returns_3 : tie.Need-returns
 returns_3 c =
     let d = c.before.before in
     let s = start d.before in
     let a = s.args in
-    let f = d.before.place-of in
-    let differ = d.if2.false in
+    let f = d.place_of-k in
+    let differ = d.if-k-n.false in
     let k = f.ensures.1 (omega (arith, f.ensures.0)) in
-    (omega arith, out_came a.us.now a.vs.now a.n a.u a.v d.before.before.before.before.if1.false f.result (omega (arith, f.ensures.0)) (omega (arith, s.pre.0)) (omega (arith, s.pre.1)) k.0 k.1)
+    (omega arith, out_came a.us.now a.vs.now a.n a.u a.v d.if-u-v.false f.result (omega (arith, f.ensures.0)) (omega (arith, s.requires.0)) (omega (arith, s.requires.1)) k.0 k.1)
 
 pub come_spec : {M : Type 1} → statement M
 come_spec =

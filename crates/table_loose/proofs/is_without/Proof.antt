@@ -1,6 +1,5 @@
 -- `table_loose::is_without` meets its contract. The invariant: it is told of the first k numbers. Assumes nothing.
 use mathlib.Core.Path.{◌≡◌, sym, subst}
-use mathlib.Core.Logic.{⊎_elim}
 use mathlib.Core.Bool.{Bool, true, false}
 use mathlib.Core.List.{List}
 use Prim.Native.Nat.{ℕ, ◌+◌, ◌-◌, ◌≤◌, ◌<◌}
@@ -12,11 +11,12 @@ use Rattle.whole.specs.Tests.{Told}
 use Rattle.table_loose.specs.Loose.{WithoutTo, WithTo}
 use Rattle.table_loose.proofs.is_without.Statement.{statement}
 use Rattle.table_loose.proofs.is_without.Tie as tie
+use Rattle.table_loose.proofs.is_without.Lts.{then-us-k, else-us-k}
 
-abbrev invariant_loop : tie.invariant_loop
+abbrev invariant_loop : tie.invariant-loop-k
 invariant_loop us u without₀ k₀ without k = (k ≤ length us) × Told without (WithoutTo us u k) (WithTo us u k)
 
-abbrev decreases_loop : tie.decreases_loop
+abbrev decreases_loop : tie.decreases-loop-k
 decreases_loop us u without₀ k₀ without k = length us - k
 
 -- One number more that isn't u.
@@ -28,22 +28,22 @@ more_without us u k true n h = λ j l e. go j e (dec_le k j) l
     go j e (no m) l = h j (omega arith) e
 more_without us u k false n h = (h.0, omega (arith, h.1), h.2)
 
-loop_again : tie.Need-loop-preserved invariant_loop decreases_loop
+loop_again : tie.Need-loop-k-preserved invariant_loop decreases_loop
 loop_again c =
-    let l = c.before.before.before.loop in
-    let a = c.before.before.before.before.args in
+    let l = c.loop-k in
+    let a = c.args in
     let us = a.us.now in
     let told : (b : Bool) → Type 0 = λ b. Told b (WithoutTo us a.u (l.k + 1)) (WithTo us a.u (l.k + 1)) in (
       omega arith,
-      ⊎_elim (λ w. subst told (sym w.1) (l.k, omega arith, w.0.taken)) (λ w. subst told (sym w.1) (more_without us a.u l.k l.without w.0.left l.invariant.1)) c.if1.branch,
+      elim c.if-us-k.branch [ then-us-k w ↦ subst told (sym w.without-is) (l.k, omega arith, w.if-us-k.true) | else-us-k w ↦ subst told (sym w.without-is) (more_without us a.u l.k l.without w.if-us-k.false l.invariant.1) ],
     )
 
 returns : tie.Need-returns invariant_loop decreases_loop
 returns c =
-    let l = c.before.loop in
-    let a = c.before.before.args in
+    let l = c.loop-k in
+    let a = c.args in
     let us = a.us.now in
-    let e : l.k ≡ length us = omega (arith, c.loop-test.false, l.invariant.0) in
+    let e : l.k ≡ length us = omega (arith, c.loop-k-test.false, l.invariant.0) in
     subst (λ n. Told l.without (WithoutTo us a.u n) (WithTo us a.u n)) e l.invariant.1
 
 pub is_without_spec : {M : Type 1} → statement M

@@ -13,10 +13,10 @@ use Rattle.table_loose.specs.Loose.{WithoutTo, WithTo}
 use Rattle.table_loose.proofs.place_of.Statement.{statement}
 use Rattle.table_loose.proofs.place_of.Tie as tie
 
-abbrev invariant_loop : tie.invariant_loop
+abbrev invariant_loop : tie.invariant-loop-k
 invariant_loop us vs n u v k₀ k = (k ≤ n) × ((j : ℕ) → k ≤ j → j < n → get_or us j 0 ≡ u → get_or vs j 0 ≡ v → ⊥)
 
-abbrev decreases_loop : tie.decreases_loop
+abbrev decreases_loop : tie.decreases-loop-k
 decreases_loop us vs n u v k₀ k = k
 
 -- What is excluded at k - 1, and from k on, is so from k - 1 on.
@@ -44,29 +44,29 @@ passed us u k l m none j Q beyond h p q = go (dec_le k j)
         none i (omega arith) (get_or-take (k - (k - 32)) (drop (k - 32) us) i 0 (omega arith) ∙ get_or-drop (k - 32) us i 0 ∙ ap (λ j. get_or us j 0) at ∙ p)
 
 -- The 32 numbers that are looked at at once are there.
-block : (c : tie.Then1 invariant_loop decreases_loop) → let k = c.before.before.loop.k in (32 ≤ k) × (k ≤ length c.before.before.before.before.before.args.us.now)
-block c = (omega (arith, c.if1.true, c.before.loop-test.true), omega (arith, c.before.before.loop.invariant.0, c.before.before.before.before.before.requires.0))
+block : (c : tie.Then-k-eq0 invariant_loop decreases_loop) → let k = c.loop-k.k in (32 ≤ k) × (k ≤ length c.args.us.now)
+block c = (omega (arith, c.if-k-eq0.true, c.loop-k-test.true), omega (arith, c.loop-k.invariant.0, c.requires.0))
 
-loop_again : tie.Need-loop-preserved invariant_loop decreases_loop
+loop_again : tie.Need-loop-k-preserved-then-is_without invariant_loop decreases_loop
 loop_again c =
-    let l = c.before.before.before.before.before.loop in
-    let a = c.before.before.before.before.before.before.before.before.args in
+    let l = c.loop-k in
+    let a = c.args in
     let us = a.us.now in
     let b = block c.before.before.before in
-    let none = subst (λ r. Told r (WithoutTo (part us l.k) a.u (length (part us l.k))) (WithTo (part us l.k) a.u (length (part us l.k)))) c.if2.true c.before.is-without.ensures in
+    let none = subst (λ r. Told r (WithoutTo (part us l.k) a.u (length (part us l.k))) (WithTo (part us l.k) a.u (length (part us l.k)))) c.if-is_without.true c.is_without.ensures in
     (omega arith, λ j h g p q. passed us a.u l.k b.0 b.1 none j (get_or a.vs.now j 0 ≡ a.v) (λ m p q. l.invariant.1 j m g p q) h p q)
 
-loop_again_2 : tie.Need-loop-preserved-2 invariant_loop decreases_loop
+loop_again_2 : tie.Need-loop-k-preserved-else-vs-k invariant_loop decreases_loop
 loop_again_2 c =
-    let l = c.before.before.before.before.before.before.loop in
-    let a = c.before.before.before.before.before.before.before.before.before.args in
-    (omega arith, λ j h g p q. one_more (λ j. (get_or a.us.now j 0 ≡ a.u) × (get_or a.vs.now j 0 ≡ a.v)) l.k j (λ e. c.if4.false e.1) (λ m e. l.invariant.1 j m g e.0 e.1) h (p, q))
+    let l = c.loop-k in
+    let a = c.args in
+    (omega arith, λ j h g p q. one_more (λ j. (get_or a.us.now j 0 ≡ a.u) × (get_or a.vs.now j 0 ≡ a.v)) l.k j (λ e. c.if-vs-k.false e.1) (λ m e. l.invariant.1 j m g e.0 e.1) h (p, q))
 
-loop_again_3 : tie.Need-loop-preserved-3 invariant_loop decreases_loop
+loop_again_3 : tie.Need-loop-k-preserved invariant_loop decreases_loop
 loop_again_3 c =
-    let l = c.before.before.before.before.loop in
-    let a = c.before.before.before.before.before.before.before.args in
-    (omega arith, λ j h g p q. one_more (λ j. (get_or a.us.now j 0 ≡ a.u) × (get_or a.vs.now j 0 ≡ a.v)) l.k j (λ e. c.if3.false e.0) (λ m e. l.invariant.1 j m g e.0 e.1) h (p, q))
+    let l = c.loop-k in
+    let a = c.args in
+    (omega arith, λ j h g p q. one_more (λ j. (get_or a.us.now j 0 ≡ a.u) × (get_or a.vs.now j 0 ≡ a.v)) l.k j (λ e. c.if-us-k.false e.0) (λ m e. l.invariant.1 j m g e.0 e.1) h (p, q))
 
 pub place_of_spec : {M : Type 1} → statement M
 place_of_spec =
@@ -89,9 +89,9 @@ place_of_spec =
     (λ c. search rules)
     (λ c. search rules)
     (λ c. search rules)
-    (λ c. (omega arith, λ h. (c.before.before.if3.true, c.if4.true), λ e. absurd (omega arith)))
+    (λ c. (omega arith, λ h. (c.if-us-k.true, c.if-vs-k.true), λ e. absurd (omega arith)))
     (λ c. omega arith)
     loop_again_2
     (λ c. omega arith)
     loop_again_3
-    (λ c. (omega arith, λ h. absurd (omega arith), λ e j h p q. c.before.loop.invariant.1 j (omega arith) h p q)))
+    (λ c. (omega arith, λ h. absurd (omega arith), λ e j h p q. c.loop-k.invariant.1 j (omega arith) h p q)))

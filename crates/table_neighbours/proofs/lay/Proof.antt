@@ -19,18 +19,18 @@ number o = u16 (triangle_of o)
 two : (o : ℕ) → length (number o) ≡ 2
 two o = length_bytes 2 (triangle_of o)
 
-abbrev invariant_loop : tie.invariant_loop
+abbrev invariant_loop : tie.invariant-loop-i
 invariant_loop opposite out₀ i₀ out i = Written 2 number opposite (length opposite) out₀ i out
 
-abbrev decreases_loop : tie.decreases_loop
+abbrev decreases_loop : tie.decreases-loop-i
 decreases_loop opposite out₀ i₀ out i = length opposite - i
 
-loop_again : tie.Need-loop-preserved invariant_loop decreases_loop
+loop_again : tie.Need-loop-i-preserved invariant_loop decreases_loop
 loop_again c =
-    let l = c.before.before.before.before.before.before.before in
-    let p = c.before.before.put in
-    let o = l.before.before.before.args.opposite.now in
-    written_more 2 number two l.loop.invariant p.new.0 (omega arith) (omega arith) (omega (arith, l.before.before.before.requires.1)) (p.ensures ∙ ap (λ n. sets l.loop.out (2 * l.loop.i) (bytes 2 n)) c.before.before.before.triangle-of.ensures)
+    let l = c in
+    let p = c.put in
+    let o = l.args.opposite.now in
+    written_more 2 number two l.loop-i.invariant p.new.out (omega arith) (omega arith) (omega (arith, l.requires.1)) (p.ensures ∙ ap (λ n. sets l.loop-i.out (2 * l.loop-i.i) (bytes 2 n)) c.triangle_of.ensures)
 
 pub lay_spec : {M : Type 1} → statement M
 lay_spec =
@@ -38,7 +38,7 @@ lay_spec =
     (tie.spec
     invariant_loop
     decreases_loop
-    (λ c. let a = c.before.before.args in written_none 2 number two a.opposite.now (length a.opposite.now) a.out.now)
+    (λ c. let a = c.args in written_none 2 number two a.opposite.now (length a.opposite.now) a.out.now)
     (λ c. omega arith)
     (λ c. omega arith)
     (λ c. omega arith)
@@ -47,8 +47,8 @@ lay_spec =
     (λ c. omega arith)
     (λ c. omega arith)
     loop_again
-    (λ c. c.before.loop.invariant.long)
+    (λ c. c.loop-i.invariant.long)
     (λ c.
-    let a = c.before.before.before.before.args in
+    let a = c.args in
     let o = a.opposite.now in
-    written_all 2 number two c.before.loop.invariant (omega arith) ∙ ap (λ l. held_index l ++ drop (2 * length o) a.out.now) (take_all (length o) o (omega arith))))
+    written_all 2 number two c.loop-i.invariant (omega arith) ∙ ap (λ l. held_index l ++ drop (2 * length o) a.out.now) (take_all (length o) o (omega arith))))

@@ -12,9 +12,9 @@ stands_spec =
     tie.close
     (tie.spec
     (λ c. search rules)
-    (λ c. omega (arith, c.shared-slice-known.given c.before.args.at))
-    (λ c. sym (first_other _ _ _ c.if1.true))
+    (λ c. omega (arith, c.shared_slice_known-1.given c.args.at))
+    (λ c. sym (first_other _ _ _ c.if-index-at.true))
     (λ c. search rules)
     (λ c. search rules)
-    (λ c. omega (arith, c.shared-slice-known2.given (c.before.before.before.args.at + 1)))
-    (λ c. sym (second_tells _ _ _ c.before.if1.false)))
+    (λ c. omega (arith, c.shared_slice_known-2-1.given (c.args.at + 1)))
+    (λ c. sym (second_tells _ _ _ c.if-index-at.false)))

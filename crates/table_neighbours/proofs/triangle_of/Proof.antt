@@ -12,4 +12,4 @@ three zero n = absurd (n refl)
 three (suc o) n = omega arith
 
 pub triangle_of_spec : {M : Type 1} → statement M
-triangle_of_spec = tie.close (tie.spec (λ c. search rules) (λ c. search rules) (λ c. search rules) (λ c. three c.before.args.side c.if1.false))
+triangle_of_spec = tie.close (tie.spec (λ c. search rules) (λ c. search rules) (λ c. search rules) (λ c. three c.args.side c.if-side-eq0.false))

@@ -12,16 +12,16 @@ use Rattle.table_neighbours.proofs.Same.{two_each}
 use Rattle.table_neighbours.proofs.write.Statement.{statement}
 use Rattle.table_neighbours.proofs.write.Tie as tie
 
-returns : tie.Need-returns
-returns c = let o = c.before.before.before.args.opposite.now in answered_short _ _ _ (held_index o) refl (omega (arith, two_each o))
+returns : tie.Need-returns-then-out-n
+returns c = let o = c.args.opposite.now in answered_short _ _ _ (held_index o) refl (omega (arith, two_each o))
 
-returns_2 : tie.Need-returns-2
+returns_2 : tie.Need-returns
 returns_2 c =
-    let a = c.before.before.before.before.before.before.before.args in
+    let a = c.args in
     let o = a.opposite.now in
-    let left = c.before.before.lay.new.1.0 in
+    let left = c.lay.new.out in
     subst (λ n. Answered (whole_outcome (held_index o)) a.out.now (n * 256) left) (two_each o)
-    (answered_bytes _ _ _ (held_index o) refl _ (omega (arith, two_each o)) (c.before.before.lay.ensures ∙ ap (λ n. held_index o ++ drop n a.out.now) (sym (two_each o))))
+    (answered_bytes _ _ _ (held_index o) refl _ (omega (arith, two_each o)) (c.lay.ensures ∙ ap (λ n. held_index o ++ drop n a.out.now) (sym (two_each o))))
 
 pub write_spec : {M : Type 1} → statement M
 write_spec = tie.close (tie.spec (λ c. search rules) returns (λ c κs. search rules) (λ c. search rules) (λ c. search rules) returns_2)

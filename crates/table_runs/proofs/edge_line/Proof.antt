@@ -14,14 +14,14 @@ use Rattle.table_runs.proofs.edge_line.Statement.{statement}
 use Rattle.table_runs.proofs.edge_line.Tie as tie
 
 -- ---- places: the entry of the function, and its calls
-abbrev start : tie.Else1 → tie.Start
+abbrev start : tie.Else-done-i → tie.Start
 start c = c.before.before.before.before.before.before.before.before.before.before
 
-abbrev undone : tie.After-mark → tie.Else1
+abbrev undone : tie.After-mark-span → tie.Else-done-i
 undone c = c.before.before.before.before.before.before
 
-abbrev marked : tie.After-walk → tie.After-mark
-marked c = c.before.before.before.before.before.before.before.before.before.before
+abbrev marked : tie.After-walk-settled → tie.After-mark-span
+marked c = c.before.before.before.before.before.before.before.before
 
 -- ---- what stands there
 from_key : (s : tie.Start) → Key (get_or s.args.from.now s.args.i 0)
@@ -36,52 +36,52 @@ lined_told true A B C f h = f h
 lined_told false A B C f h = h
 
 -- ---- the needs
-returns : tie.Need-returns
+returns : tie.Need-returns-then-done-i
 returns c =
-    let s = c.before.before.before.before.before.before.before.before.before.before in
+    let s = c in
     let a = s.args in
-    (s.requires.5, s.requires.6, lines_done a.corners.now a.from.now a.to.now s.requires.1 a.i s.requires.2 a.done.now s.requires.8 c.if1.true, λ sides looked opened. onward_done sides a.corners.now a.from.now a.to.now a.counts.now a.done.now opened)
+    (s.requires.5, s.requires.6, lines_done a.corners.now a.from.now a.to.now s.requires.1 a.i s.requires.2 a.done.now s.requires.8 c.if-done-i.true, λ sides looked opened. onward_done sides a.corners.now a.from.now a.to.now a.counts.now a.done.now opened)
 
-mark_requires : tie.Need-mark-requires
+mark_requires : tie.Need-mark-span-requires
 mark_requires c κs =
     let s = start c.before.before.before.before.before in
     let a = s.args in
-    (s.pre.1, from_key s, to_key s, omega (arith, s.pre.2), lines_unmet a.corners.now a.from.now a.to.now s.pre.1 a.i s.pre.2 a.done.now s.pre.8 c.before.before.before.before.before.if1.false, s.pre.7, s.pre.3, s.pre.4, s.pre.5, s.pre.6)
+    (s.requires.1, from_key s, to_key s, omega (arith, s.requires.2), lines_unmet a.corners.now a.from.now a.to.now s.requires.1 a.i s.requires.2 a.done.now s.requires.8 c.if-done-i.false, s.requires.7, s.requires.3, s.requires.4, s.requires.5, s.requires.6)
 
-walk_requires : tie.Need-walk-requires
+walk_requires : tie.Need-walk-settled-requires
 walk_requires c κs =
-    let m = c.before.before.before.before.before.before.before.before.before.mark in
-    let s = start (undone c.before.before.before.before.before.before.before.before.before) in
-    (s.pre.0, s.pre.1, from_key s, to_key s, s.pre.1.long s.args.i s.pre.2, m.ensures.2, m.ensures.3, m.ensures.0, m.ensures.1)
+    let m = c.mark-span in
+    let s = start (undone c.before.before.before.before.before.before.before) in
+    (s.requires.0, s.requires.1, from_key s, to_key s, s.requires.1.long s.args.i s.requires.2, m.ensures.2, m.ensures.3, m.ensures.0, m.ensures.1)
 
 wipe_requires : tie.Need-wipe-requires
 wipe_requires c κs =
     let d = marked c.before.before.before in
-    let m = d.mark in
+    let m = d.mark-span in
     let s = start (undone d) in
     let a = s.args in
-    (omega (arith, m.ensures.0, m.ensures.2.number), λ k l o. begins_outside a.corners.now (get_or a.from.now a.i 0) (get_or a.to.now a.i 0) a.from.now a.to.now m.result.low m.result.stop s.pre.1.as_many m.ensures.1 k (omega (arith, m.ensures.2.number)) o m.last.1.1.1.1.1.1.0 m.ensures.2)
+    (omega (arith, m.ensures.0, m.ensures.2.number), λ k l o. begins_outside a.corners.now (get_or a.from.now a.i 0) (get_or a.to.now a.i 0) a.from.now a.to.now m.result.low m.result.stop s.requires.1.as_many m.ensures.1 k (omega (arith, m.ensures.2.number)) o m.new.begins m.ensures.2)
 
 wipe_requires_2 : tie.Need-wipe-requires-2
 wipe_requires_2 c κs =
     let d = marked c.before.before.before.before.before.before.before in
-    let m = d.mark in
+    let m = d.mark-span in
     let s = start (undone d) in
     let a = s.args in
-    (omega (arith, m.ensures.0, m.ensures.3.number), λ k l o. ends_outside a.corners.now (get_or a.from.now a.i 0) (get_or a.to.now a.i 0) a.from.now a.to.now m.result.low m.result.stop s.pre.1.as_many m.ensures.1 k (omega (arith, m.ensures.3.number)) o m.last.1.1.1.1.1.1.1.0 m.ensures.3)
+    (omega (arith, m.ensures.0, m.ensures.3.number), λ k l o. ends_outside a.corners.now (get_or a.from.now a.i 0) (get_or a.to.now a.i 0) a.from.now a.to.now m.result.low m.result.stop s.requires.1.as_many m.ensures.1 k (omega (arith, m.ensures.3.number)) o m.new.ends m.ensures.3)
 
-returns_2 : tie.Need-returns-2
+returns_2 : tie.Need-returns
 returns_2 c =
-    let w = c.before.before.before.before.before.before.before.before.before.before.walk in
+    let w = c.walk-settled in
     let d = marked c.before.before.before.before.before.before.before.before.before.before in
-    let m = d.mark in
+    let m = d.mark-span in
     let s = start (undone d) in
     let a = s.args in
-    let done = m.last.1.1.1.1.1.1.1.1.0 in (
-      c.before.before.before.before.before.before.wipe.ensures.1,
-      c.before.before.wipe2.ensures.1,
-      lines_more a.corners.now a.from.now a.to.now s.pre.1 a.i s.pre.2 a.done.now s.pre.8 done m.ensures.4,
-      λ sides looked opened. lined_told w.result _ _ _ (onward_line sides a.corners.now a.from.now a.to.now s.pre.1 (get_or a.from.now a.i 0) (get_or a.to.now a.i 0) (s.pre.1.long a.i s.pre.2) a.counts.now w.new.1.1.1.1.1.1.1.1.1.1.0 a.done.now done m.ensures.4) (w.ensures sides looked opened),
+    let done = m.new.done in (
+      c.wipe.ensures.1,
+      c.wipe-2.ensures.1,
+      lines_more a.corners.now a.from.now a.to.now s.requires.1 a.i s.requires.2 a.done.now s.requires.8 done m.ensures.4,
+      λ sides looked opened. lined_told w.result _ _ _ (onward_line sides a.corners.now a.from.now a.to.now s.requires.1 (get_or a.from.now a.i 0) (get_or a.to.now a.i 0) (s.requires.1.long a.i s.requires.2) a.counts.now w.new.counts a.done.now done m.ensures.4) (w.ensures sides looked opened),
     )
 
 pub edge_line_spec : {M : Type 1} → statement M
@@ -98,8 +98,8 @@ edge_line_spec =
     walk_requires
     wipe_requires
     wipe_requires_2
-    (λ c. c.before.before.before.before.before.before.wipe.ensures.0 ∙ (marked c.before.before.before.before.before.before.before.before.before.before).mark.auto.1.1.1.1.1.1.0)
-    (λ c. c.before.before.wipe2.ensures.0 ∙ (marked c.before.before.before.before.before.before.before.before.before.before).mark.auto.1.1.1.1.1.1.1.0)
-    (λ c. (marked c.before.before.before.before.before.before.before.before.before.before).mark.auto.1.1.1.1.1.1.1.1.0)
-    (λ c. c.before.before.before.before.before.before.before.before.before.before.walk.auto.1.1.1.1.1.1.1.1.1.1.0)
+    (λ c. c.wipe.ensures.0 ∙ (marked c.before.before.before.before.before.before.before.before.before.before).mark-span.auto.begins)
+    (λ c. c.wipe-2.ensures.0 ∙ (marked c.before.before.before.before.before.before.before.before.before.before).mark-span.auto.ends)
+    (λ c. (marked c.before.before.before.before.before.before.before.before.before.before).mark-span.auto.done)
+    (λ c. c.walk-settled.auto.counts)
     returns_2)

@@ -16,30 +16,30 @@ placed_at counts (suc k) n x y h e =
     let p : suc k - 1 ≡ k = omega arith in
     rw p (ap (set counts k) e)
 
-returns : tie.Need-returns
+returns : tie.Need-returns-then-s-eq0
 returns c = search rules
 
-add_counts : tie.Need-overflow-add-counts
+add_counts : tie.Need-overflow_add-counts
 add_counts c = search rules
 
-sub_counts : tie.Need-overflow-sub-counts
+sub_counts : tie.Need-overflow_sub-counts
 sub_counts c = search rules
 
-sub_counts_2 : tie.Need-overflow-sub-counts-2
+sub_counts_2 : tie.Need-overflow_sub-counts-2
 sub_counts_2 c = search rules
 
-mul_counts : tie.Need-overflow-mul-counts
+mul_counts : tie.Need-offset_bounds-counts-s
 mul_counts c = search rules
 
-slice_write_counts : tie.Need-slice-write-counts
+slice_write_counts : tie.Need-bounds-counts-s
 slice_write_counts c = search rules
 
-same_length : tie.Need-same-length
+same_length : tie.Need-shape_of-counts
 same_length c = search rules
 
-returns_2 : tie.Need-returns-2
+returns_2 : tie.Need-returns
 returns_2 c =
-    let a = c.before.args in
+    let a = c.args in
     placed_at a.counts.now a.s (evenly + a.more - a.less) a.more a.less (omega arith) refl
 
 pub put_spec : {M : Type 1} → statement M

@@ -5,10 +5,10 @@ use lib.Dec.{T}
 use Rattle.table_runs.proofs.quiet.Statement.{statement}
 use Rattle.table_runs.proofs.quiet.Tie as tie
 
-returns : tie.Need-returns
-returns c t = (c.if1.true, eqb-true c.before.args.begin c.before.args.end t)
+returns : tie.Need-returns-then-more-less
+returns c t = (c.if-more-less.true, eqb-true c.args.begin c.args.end t)
 
-returns_2 : tie.Need-returns-2
+returns_2 : tie.Need-returns
 returns_2 c t = absurd (subst T (sym t) tt)
 
 pub quiet_spec : {M : Type 1} → statement M

@@ -1,7 +1,8 @@
 -- `table_runs::walk` meets its contract. The invariant: the sums are what has begun and what has ended before this corner, and the corners before are walked.
 -- Assumes nothing.
 use mathlib.Core.Path.{◌≡◌, refl, sym, ◌∙◌, ap, subst}
-use mathlib.Core.Logic.{inl, ⊎_elim}
+use mathlib.Core.Logic.{inl}
+use mathlib.Core.Bool.{not}
 use mathlib.Core.List.{List}
 use Prim.Native.Nat.{ℕ, suc, ◌+◌, ◌-◌, ◌≤◌, ◌<◌}
 use native.Mathlib.Omega.{arith}
@@ -9,7 +10,7 @@ use borrow.Author.Rules.{rules}
 use lib.Dec.{T}
 use lib.ListN.{length, get_or}
 use Rattle.whole.proofs.Sums.{all_at}
-use Rattle.whole.proofs.Tests.{told_no, told_yes, turned_on}
+use Rattle.whole.proofs.Tests.{told_no, told_yes}
 use Rattle.plane.specs.Points.{Edge}
 use Rattle.plane.specs.Keys.{Key}
 use Rattle.table_lines.specs.Lines.{begun_by, ended_by}
@@ -19,165 +20,165 @@ use Rattle.table_runs.specs.Runs.{Open, Ready, Walked}
 use Rattle.table_runs.proofs.Walks.{walked_low, walked_stop, begun_low, ended_low, walked_met, walked_off, walked_even, ready_on, ready_off}
 use Rattle.table_runs.proofs.walk.Statement.{statement}
 use Rattle.table_runs.proofs.walk.Tie as tie
+use Rattle.table_runs.proofs.walk.Lts.{then-not-quiet+then-on_line+else-not-meet, then-not-quiet+else-on_line, else-not-quiet}
 
-abbrev invariant_loop : tie.invariant_loop
+abbrev invariant_loop : tie.invariant-loop-k
 invariant_loop corners index from to a b begins ends low stop counts₀ more₀ less₀ last₀ k₀ counts more less last k = (stop ≤ length corners) × (more ≡ begun_by corners a b from to k) × (less ≡ ended_by corners a b from to k) × (length counts ≡ length counts₀) × Ready corners a b k (get_or corners last 0) more less
     × ((sides : List Edge) → Looked sides corners index → Open sides (pieces_of corners from to) counts₀ → Walked sides corners from to a b counts₀ counts k) × (last ≤ k)
 
-abbrev decreases_loop : tie.decreases_loop
+abbrev decreases_loop : tie.decreases-loop-k
 decreases_loop corners index from to a b begins ends low stop counts₀ more₀ less₀ last₀ k₀ counts more less last k = stop - k
 
 one_more : (k : ℕ) → k + 1 ≡ suc k
 one_more k = omega arith
 
-loop_holds : tie.Need-loop-init invariant_loop decreases_loop
+loop_holds : tie.Need-loop-k-init invariant_loop decreases_loop
 loop_holds c =
-    let s = c.before.before.before.before.before.before.before in
+    let s = c in
     let a = s.args in
     (s.requires.7, sym (begun_low s.requires.0.0 a.corners.now a.index.now a.from.now a.to.now s.requires.0.1 s.requires.1 a.a a.b s.requires.4 a.low a.stop s.requires.8 a.low (omega arith)), sym (ended_low s.requires.0.0 a.corners.now a.index.now a.from.now a.to.now s.requires.0.1 s.requires.1 a.a a.b s.requires.4 a.low a.stop s.requires.8 a.low (omega arith)), refl, inl refl, λ sides looked opened. walked_low sides a.corners.now a.index.now a.from.now a.to.now looked s.requires.1 a.a a.b s.requires.4 a.low a.stop s.requires.8 a.counts.now opened, omega arith)
 
-mul_quiet : tie.Need-overflow-mul-quiet invariant_loop decreases_loop
+mul_quiet : tie.Need-offset_bounds-begins-k invariant_loop decreases_loop
 mul_quiet c =
-    let s = c.before.before.before.before.before.before.before.before.before in
+    let s = c in
     omega (arith, s.requires.5.number)
 
-shared_slice_read_quiet : tie.Need-shared-slice-read-quiet invariant_loop decreases_loop
+shared_slice_read_quiet : tie.Need-bounds-begins-k invariant_loop decreases_loop
 shared_slice_read_quiet c =
-    let s = c.before.before.before.before.before.before.before.before.before.before in
+    let s = c in
     omega (arith, s.requires.5.number)
 
-mul_quiet_2 : tie.Need-overflow-mul-quiet-2 invariant_loop decreases_loop
+mul_quiet_2 : tie.Need-offset_bounds-ends-k invariant_loop decreases_loop
 mul_quiet_2 c =
-    let s = c.before.before.before.before.before.before.before.before.before.before in
+    let s = c in
     omega (arith, s.requires.6.number)
 
-shared_slice_read_quiet_2 : tie.Need-shared-slice-read-quiet-2 invariant_loop decreases_loop
+shared_slice_read_quiet_2 : tie.Need-bounds-ends-k invariant_loop decreases_loop
 shared_slice_read_quiet_2 c =
-    let s = c.before.before.before.before.before.before.before.before.before.before.before in
+    let s = c in
     omega (arith, s.requires.6.number)
 
 quiet_requires : tie.Need-quiet-requires invariant_loop decreases_loop
 quiet_requires c κs = tt
 
-mul_on_line : tie.Need-overflow-mul-on-line invariant_loop decreases_loop
+mul_on_line : tie.Need-offset_bounds-corners-k invariant_loop decreases_loop
 mul_on_line c = search rules
 
-shared_slice_read_on_line : tie.Need-shared-slice-read-on-line invariant_loop decreases_loop
+shared_slice_read_on_line : tie.Need-bounds-corners-k invariant_loop decreases_loop
 shared_slice_read_on_line c = omega arith
 
-on_line_requires : tie.Need-on-line-requires invariant_loop decreases_loop
+on_line_requires : tie.Need-on_line-requires invariant_loop decreases_loop
 on_line_requires c κs =
-    let s = c.before.before.before.before.before.before.before.before.before.before.before.before.before.before in
-    (s.requires.2, s.requires.3, all_at Key 0 s.args.corners.now c.before.before.before.before.before.before.loop.k s.requires.1.corner_keys (omega arith))
+    let s = c in
+    (s.requires.2, s.requires.3, all_at Key 0 s.args.corners.now c.loop-k.k s.requires.1.corner_keys (omega arith))
 
 meet_requires : tie.Need-meet-requires invariant_loop decreases_loop
 meet_requires c κs =
-    let s = c.before.before.before.before.before.before.before.before.before.before.before.before.before.before.before.before.before in
-    let l = c.before.before.before.before.before.before.before.before.before.loop in
+    let s = c in
+    let l = c.loop-k in
     ((s.requires.0.0, s.requires.0.1, l.invariant.3 ∙ s.requires.0.2), s.requires.1, omega arith, l.invariant.6, l.invariant.1, l.invariant.2)
 
-same_length : tie.Need-same-length invariant_loop decreases_loop
-same_length c = c.before.before.before.meet.auto.1.1.1.1.1.1.1.1.1.1.0 ∙ c.before.before.before.before.before.before.before.before.before.before.before.before.before.loop.invariant.3
+same_length : tie.Need-shape_of-counts-then-not-meet invariant_loop decreases_loop
+same_length c = c.meet.auto.counts ∙ c.loop-k.invariant.3
 
-returns : tie.Need-returns invariant_loop decreases_loop
+returns : tie.Need-returns-then-not-meet invariant_loop decreases_loop
 returns c = λ sides looked opened.
-    let s = c.before.before.before.before.before.before.before.before.before.before.before.before.before.before.before.before.before.before.before.before.before in
+    let s = c in
     let a = s.args in
-    let l = c.before.before.before.before.before.before.before.before.before.before.before.before.before.loop in
-    let m = c.before.before.before.meet in
-    told_no _ _ m.result c.if3.true (m.ensures sides looked (l.invariant.5 sides looked opened).still s.requires.4 (subst T (sym (sym c.before.before.before.before.before.before.on_line.ensures ∙ c.before.before.before.before.before.if2.true)) tt) l.invariant.4)
+    let l = c.loop-k in
+    let m = c.meet in
+    told_no _ _ m.result (ap not c.if-not-meet.true) (m.ensures sides looked (l.invariant.5 sides looked opened).still s.requires.4 (subst T (sym (sym c.on_line.ensures ∙ c.if-on_line.true)) tt) l.invariant.4)
 
 -- What holds after the corner, however it was passed.
-joined : (c : tie.Joined1 invariant_loop decreases_loop) → let s = c.before.before.before.before.before.before.before.before.before.before.before.before.before in let a = s.args in let l = c.before.before.before.before.before.loop in
-    (length c.if1.counts ≡ length a.counts.now)
-    × Ready a.corners.now a.a a.b (l.k + 1) (get_or a.corners.now c.if1.new 0) (l.more + get_or a.begins.now l.k 0) (l.less + get_or a.ends.now l.k 0)
+joined : (c : tie.Joined-not-quiet invariant_loop decreases_loop) → let s = c in let a = s.args in let l = c.loop-k in
+    (length c.if-not-quiet.counts ≡ length a.counts.now)
+    × Ready a.corners.now a.a a.b (l.k + 1) (get_or a.corners.now c.if-not-quiet.last 0) (l.more + get_or a.begins.now l.k 0) (l.less + get_or a.ends.now l.k 0)
     × ((sides : List Edge) → Looked sides a.corners.now a.index.now → Open sides (pieces_of a.corners.now a.from.now a.to.now) a.counts.now
-    → Walked sides a.corners.now a.from.now a.to.now a.a a.b a.counts.now c.if1.counts (l.k + 1))
-    × (c.if1.new ≤ l.k + 1)
+    → Walked sides a.corners.now a.from.now a.to.now a.a a.b a.counts.now c.if-not-quiet.counts (l.k + 1))
+    × (c.if-not-quiet.last ≤ l.k + 1)
 joined c =
-    let s = c.before.before.before.before.before.before.before.before.before.before.before.before.before in
+    let s = c in
     let a = s.args in
-    let l = c.before.before.before.before.before.loop in
+    let l = c.loop-k in
     let h : l.k < length a.corners.now = omega arith in
     let begin = get_or a.begins.now l.k 0 in
     let end = get_or a.ends.now l.k 0 in
     let here = get_or a.corners.now l.k 0 in
-    ⊎_elim
-    (λ w.
-    let on = sym w.2.ensures ∙ w.3.taken in (
-      ap length w.9 ∙ w.5.kept.1.1.1.1.1.1.1.1.1.1.0 ∙ l.invariant.3,
-      subst (λ z. Ready a.corners.now a.a a.b (l.k + 1) (get_or a.corners.now z 0) (l.more + begin) (l.less + end)) (sym w.10) (ready_on a.corners.now a.from.now a.to.now s.requires.1 a.a a.b l.k h (l.more + begin) (l.less + end) on),
-      λ sides looked opened.
-          let walked = l.invariant.5 sides looked opened in
-          subst (λ z. Walked sides a.corners.now a.from.now a.to.now a.a a.b a.counts.now z (l.k + 1)) (sym w.9)
-          (walked_met sides a.corners.now a.index.now a.from.now a.to.now looked s.requires.1 a.a a.b s.requires.4 l.k h a.counts.now l.counts walked w.5.last.1.1.1.1.1.1.1.1.1.1.0 (told_yes _ _ w.5.result w.8.left (w.5.ensures sides looked walked.still s.requires.4 (subst T (sym on) tt) l.invariant.4))),
-      omega (arith, w.10),
-    ))
-    (⊎_elim
-    (λ w.
-    let off = sym w.2.ensures ∙ w.3.left in (
-      ap length w.4 ∙ l.invariant.3,
-      subst (λ z. Ready a.corners.now a.a a.b (l.k + 1) (get_or a.corners.now z 0) (l.more + begin) (l.less + end)) (sym w.5)
-          (ready_off a.corners.now a.from.now a.to.now s.requires.1 a.a a.b l.k h (get_or a.corners.now l.last 0) l.more l.less begin end (s.requires.5.each l.k h) (s.requires.6.each l.k h) off l.invariant.4),
-      λ sides looked opened. subst (λ z. Walked sides a.corners.now a.from.now a.to.now a.a a.b a.counts.now z (l.k + 1)) (sym w.4)
-          (walked_off sides a.corners.now a.index.now a.from.now a.to.now looked s.requires.1 a.a a.b s.requires.4 l.k h a.counts.now l.counts (l.invariant.5 sides looked opened) off),
-      omega (arith, w.5, l.invariant.6),
-    ))
-    (λ w.
-    let even = c.before.quiet.ensures (turned_on c.before.quiet.result w.0.left) in (
-      ap length w.1 ∙ l.invariant.3,
-      inl (omega (arith, even)),
-      λ sides looked opened. subst (λ z. Walked sides a.corners.now a.from.now a.to.now a.a a.b a.counts.now z (l.k + 1)) (sym w.1)
-          (walked_even sides a.corners.now a.index.now a.from.now a.to.now looked s.requires.1 a.a a.b s.requires.4 l.k h a.counts.now l.counts (l.invariant.5 sides looked opened) l.more l.less l.invariant.1 l.invariant.2 even.0),
-      omega (arith, w.2, l.invariant.6),
-    )))
-    c.if1.branch
+    elim c.if-not-quiet.branch [
+      | then-not-quiet+then-on_line+else-not-meet w ↦
+          let on = sym w.on_line.ensures ∙ w.if-on_line.true in (
+            ap length w.counts-is ∙ w.meet.auto.counts ∙ l.invariant.3,
+            subst (λ z. Ready a.corners.now a.a a.b (l.k + 1) (get_or a.corners.now z 0) (l.more + begin) (l.less + end)) (sym w.last-is) (ready_on a.corners.now a.from.now a.to.now s.requires.1 a.a a.b l.k h (l.more + begin) (l.less + end) on),
+            λ sides looked opened.
+                let walked = l.invariant.5 sides looked opened in
+                subst (λ z. Walked sides a.corners.now a.from.now a.to.now a.a a.b a.counts.now z (l.k + 1)) (sym w.counts-is)
+                (walked_met sides a.corners.now a.index.now a.from.now a.to.now looked s.requires.1 a.a a.b s.requires.4 l.k h a.counts.now l.counts walked w.meet.new.counts (told_yes _ _ w.meet.result (ap not w.if-not-meet.false) (w.meet.ensures sides looked walked.still s.requires.4 (subst T (sym on) tt) l.invariant.4))),
+            omega (arith, w.last-is),
+          )
+      | then-not-quiet+else-on_line w ↦
+          let off = sym w.on_line.ensures ∙ w.if-on_line.false in (
+            ap length w.counts-is ∙ l.invariant.3,
+            subst (λ z. Ready a.corners.now a.a a.b (l.k + 1) (get_or a.corners.now z 0) (l.more + begin) (l.less + end)) (sym w.last-is)
+                (ready_off a.corners.now a.from.now a.to.now s.requires.1 a.a a.b l.k h (get_or a.corners.now l.last 0) l.more l.less begin end (s.requires.5.each l.k h) (s.requires.6.each l.k h) off l.invariant.4),
+            λ sides looked opened. subst (λ z. Walked sides a.corners.now a.from.now a.to.now a.a a.b a.counts.now z (l.k + 1)) (sym w.counts-is)
+                (walked_off sides a.corners.now a.index.now a.from.now a.to.now looked s.requires.1 a.a a.b s.requires.4 l.k h a.counts.now l.counts (l.invariant.5 sides looked opened) off),
+            omega (arith, w.last-is, l.invariant.6),
+          )
+      | else-not-quiet w ↦
+          let even = c.quiet.ensures w.if-not-quiet.false in (
+            ap length w.counts-is ∙ l.invariant.3,
+            inl (omega (arith, even)),
+            λ sides looked opened. subst (λ z. Walked sides a.corners.now a.from.now a.to.now a.a a.b a.counts.now z (l.k + 1)) (sym w.counts-is)
+                (walked_even sides a.corners.now a.index.now a.from.now a.to.now looked s.requires.1 a.a a.b s.requires.4 l.k h a.counts.now l.counts (l.invariant.5 sides looked opened) l.more l.less l.invariant.1 l.invariant.2 even.0),
+            omega (arith, w.last-is, l.invariant.6),
+          )
+    ]
 
-mul_more : tie.Need-overflow-mul-more invariant_loop decreases_loop
+mul_more : tie.Need-offset_bounds-begins-k-in-loop-k invariant_loop decreases_loop
 mul_more c =
-    let s = c.before.before.before.before.before.before.before.before.before.before.before.before.before in
+    let s = c in
     omega (arith, s.requires.5.number)
 
-shared_slice_read_more : tie.Need-shared-slice-read-more invariant_loop decreases_loop
+shared_slice_read_more : tie.Need-bounds-begins-k-in-loop-k invariant_loop decreases_loop
 shared_slice_read_more c =
-    let s = c.before.before.before.before.before.before.before.before.before.before.before.before.before.before in
+    let s = c in
     omega (arith, s.requires.5.number)
 
-add_more : tie.Need-overflow-add-more invariant_loop decreases_loop
+add_more : tie.Need-overflow_add-more invariant_loop decreases_loop
 add_more c =
-    let s = c.before.before.before.before.before.before.before.before.before.before.before.before.before.before in
+    let s = c in
     let a = s.args in
-    let l = c.before.before.before.before.before.before.loop in
+    let l = c.loop-k in
     omega (arith, l.invariant.1, s.requires.1.few, s.requires.5.each l.k (omega arith), begun_more a.corners.now a.a a.b a.from.now a.to.now l.k, begun_few a.corners.now a.a a.b a.from.now a.to.now (l.k + 1), ap (begun_by a.corners.now a.a a.b a.from.now a.to.now) (one_more l.k))
 
-mul_less : tie.Need-overflow-mul-less invariant_loop decreases_loop
+mul_less : tie.Need-offset_bounds-ends-k-in-loop-k invariant_loop decreases_loop
 mul_less c =
-    let s = c.before.before.before.before.before.before.before.before.before.before.before.before.before.before in
+    let s = c in
     omega (arith, s.requires.6.number)
 
-shared_slice_read_less : tie.Need-shared-slice-read-smaller invariant_loop decreases_loop
+shared_slice_read_less : tie.Need-bounds-ends-k-in-loop-k invariant_loop decreases_loop
 shared_slice_read_less c =
-    let s = c.before.before.before.before.before.before.before.before.before.before.before.before.before.before.before in
+    let s = c in
     omega (arith, s.requires.6.number)
 
-add_less : tie.Need-overflow-add-less invariant_loop decreases_loop
+add_less : tie.Need-overflow_add-less invariant_loop decreases_loop
 add_less c =
-    let s = c.before.before.before.before.before.before.before.before.before.before.before.before.before.before.before in
+    let s = c in
     let a = s.args in
-    let l = c.before.before.before.before.before.before.before.loop in
+    let l = c.loop-k in
     omega (arith, l.invariant.2, s.requires.1.few, s.requires.6.each l.k (omega arith), ended_more a.corners.now a.a a.b a.from.now a.to.now l.k, ended_few a.corners.now a.a a.b a.from.now a.to.now (l.k + 1), ap (ended_by a.corners.now a.a a.b a.from.now a.to.now) (one_more l.k))
 
-add_k : tie.Need-overflow-add-k invariant_loop decreases_loop
+add_k : tie.Need-overflow_add-k invariant_loop decreases_loop
 add_k c = omega arith
 
-loop_less : tie.Need-loop-smaller invariant_loop decreases_loop
+loop_less : tie.Need-loop-k-smaller invariant_loop decreases_loop
 loop_less c = omega arith
 
-loop_again : tie.Need-loop-preserved invariant_loop decreases_loop
+loop_again : tie.Need-loop-k-preserved invariant_loop decreases_loop
 loop_again c =
-    let s = c.before.before.before.before.before.before.before.before.before.before.before.before.before.before.before in
+    let s = c in
     let a = s.args in
-    let l = c.before.before.before.before.before.before.before.loop in
+    let l = c.loop-k in
     let j = joined c.before.before in (
       omega arith,
       omega (arith, l.invariant.1, s.requires.5.each l.k (omega arith), begun_more a.corners.now a.a a.b a.from.now a.to.now l.k, ap (begun_by a.corners.now a.a a.b a.from.now a.to.now) (one_more l.k)),
@@ -188,14 +189,14 @@ loop_again c =
       j.3,
     )
 
-same_length_2 : tie.Need-same-length-2 invariant_loop decreases_loop
-same_length_2 c = c.before.loop.invariant.3
+same_length_2 : tie.Need-shape_of-counts invariant_loop decreases_loop
+same_length_2 c = c.loop-k.invariant.3
 
-returns_2 : tie.Need-returns-2 invariant_loop decreases_loop
+returns_2 : tie.Need-returns invariant_loop decreases_loop
 returns_2 c = λ sides looked opened.
-    let s = c.before.before.before.before.before.before.before.before.before in
+    let s = c in
     let a = s.args in
-    let l = c.before.loop in
+    let l = c.loop-k in
     walked_stop sides a.corners.now a.index.now a.from.now a.to.now looked s.requires.1 a.a a.b s.requires.4 a.low a.stop s.requires.8 a.counts.now l.counts l.k (omega arith) (l.invariant.5 sides looked opened)
 
 pub walk_spec : {M : Type 1} → statement M

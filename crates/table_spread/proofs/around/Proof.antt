@@ -10,33 +10,33 @@ use Rattle.table_spread.proofs.around.Statement.{statement}
 use Rattle.table_spread.proofs.around.Tie as tie
 
 -- ---- places: the entry of the function, and the three calls of `cross`
-abbrev start : tie.After-cross-arg2 → tie.Start
+abbrev start : tie.After-cross-arg-2-1 → tie.Start
 start c = c.before.before.before.before.before.before
 
-abbrev first : tie.After-slice-known4 → tie.After-cross
+abbrev first : tie.After-slice_known-4-1 → tie.After-cross-a
 first c = c.before.before.before.before
 
-abbrev second : tie.After-slice-known6 → tie.After-cross2
+abbrev second : tie.After-slice_known-6-1 → tie.After-cross-b
 second c = c.before.before.before.before
 
-abbrev third : tie.After-slice-known8 → tie.After-cross3
+abbrev third : tie.After-slice_known-8-1 → tie.After-cross
 third c = c.before.before.before.before
 
-cross_requires : tie.Need-cross-requires
-cross_requires c κs = let o = start c in may_cross o.pre.0 (grown_self o.pre.1) o.pre.2 o.args.t o.pre.3 o.pre.4 0 _ (omega arith) (omega arith)
+cross_requires : tie.Need-cross-a-requires
+cross_requires c κs = let o = start c in may_cross o.requires.0 (grown_self o.requires.1) o.requires.2 o.args.t o.requires.3 o.requires.4 0 _ (omega arith) (omega arith)
 
-cross_requires_2 : tie.Need-cross-requires-2
+cross_requires_2 : tie.Need-cross-b-requires
 cross_requires_2 c κs =
     let a = first c.before.before in
     let o = start a.before in
-    may_cross o.pre.0 a.cross.ensures.0 a.cross.ensures.1 o.args.t o.pre.3 o.pre.4 1 _ (omega arith) refl
+    may_cross o.requires.0 a.cross-a.ensures.0 a.cross-a.ensures.1 o.args.t o.requires.3 o.requires.4 1 _ (omega arith) refl
 
-cross_requires_3 : tie.Need-cross-requires-3
+cross_requires_3 : tie.Need-cross-requires
 cross_requires_3 c κs =
     let b = second c.before.before in
     let a = first b.before.before.before in
     let o = start a.before in
-    may_cross o.pre.0 (grown_more a.cross.ensures.0 b.cross2.ensures.0) b.cross2.ensures.1 o.args.t o.pre.3 o.pre.4 2 _ (omega arith) refl
+    may_cross o.requires.0 (grown_more a.cross-a.ensures.0 b.cross-b.ensures.0) b.cross-b.ensures.1 o.args.t o.requires.3 o.requires.4 2 _ (omega arith) refl
 
 returns : tie.Need-returns
 returns c =
@@ -44,9 +44,9 @@ returns c =
     let b = second d.before.before.before in
     let a = first b.before.before.before in
     let o = start a.before in
-    let f = a.cross.ensures in
-    let g = b.cross2.ensures in
-    let h = d.cross3.ensures in (
+    let f = a.cross-a.ensures in
+    let g = b.cross-b.ensures in
+    let h = d.cross.ensures in (
       grown_more f.0 (grown_more g.0 h.0),
       h.1,
       three_sides (λ k. Crossed o.args.opposite.now o.args.counts.now _ k) o.args.t (crossed_still (grown_more g.0 h.0) _ f.2) (crossed_still h.0 _ g.2) h.2,

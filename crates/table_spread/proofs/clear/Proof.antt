@@ -10,15 +10,15 @@ use lib.ListN.{length, get_or, set, replicate, length-set, length-replicate, get
 use Rattle.table_spread.proofs.clear.Statement.{statement}
 use Rattle.table_spread.proofs.clear.Tie as tie
 
-abbrev invariant_loop : tie.invariant_loop
+abbrev invariant_loop : tie.invariant-loop-t
 invariant_loop labels₀ t₀ labels t = (length labels ≡ length labels₀) × (t ≤ length labels) × ((v : ℕ) → v < t → get_or labels v false ≡ false)
 
-abbrev decreases_loop : tie.decreases_loop
+abbrev decreases_loop : tie.decreases-loop-t
 decreases_loop labels₀ t₀ labels t = length labels - t
 
-loop_again : tie.Need-loop-preserved invariant_loop decreases_loop
+loop_again : tie.Need-loop-t-preserved invariant_loop decreases_loop
 loop_again c =
-    let l = c.before.loop in
+    let l = c.loop-t in
     let e = length-set l.labels l.t false in (
       e ∙ l.invariant.0,
       omega arith,
@@ -28,8 +28,8 @@ loop_again c =
 
 returns : tie.Need-returns invariant_loop decreases_loop
 returns c =
-    let l = c.before.loop in
-    let n = length c.before.before.args.labels.now in
+    let l = c.loop-t in
+    let n = length c.args.labels.now in
     ext_get_or false l.labels (replicate n false) (l.invariant.0 ∙ sym (length-replicate n false)) (λ v h. l.invariant.2 v (omega arith) ∙ sym (get_or-replicate n v false false (omega arith)))
 
 pub clear_spec : {M : Type 1} → statement M
@@ -41,7 +41,7 @@ clear_spec =
     (λ c. (refl, omega arith, λ v h. absurd (omega arith)))
     (λ c. search rules)
     (λ c. omega arith)
-    (λ c. let e = length-set c.before.loop.labels c.before.loop.t false in omega arith)
+    (λ c. let e = length-set c.loop-t.labels c.loop-t.t false in omega arith)
     loop_again
-    (λ c. c.before.loop.invariant.0)
+    (λ c. c.loop-t.invariant.0)
     returns)

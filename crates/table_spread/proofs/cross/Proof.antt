@@ -11,13 +11,13 @@ use Rattle.table_spread.proofs.cross.Statement.{statement}
 use Rattle.table_spread.proofs.cross.Tie as tie
 
 -- ---- places: the test, the entry of the function, and the call of `meet`
-abbrev start : tie.After-shared-slice-known3 → tie.Start
+abbrev start : tie.After-shared_slice_known-3-1 → tie.Start
 start c = c.before.before.before.before.before
 
-abbrev meet_call : tie.After-slice-known4 → tie.After-meet
+abbrev meet_call : tie.After-slice_known-4-1 → tie.After-meet
 meet_call c = c.before.before.before.before
 
-abbrev tested : tie.After-meet-arg2 → tie.Else1
+abbrev tested : tie.After-meet-arg-2-1 → tie.Else-counts-k
 tested c = c.before.before.before
 
 -- Number o, less 1, is that of the reverse.
@@ -25,10 +25,10 @@ abbrev reverse : tie.Start → ℕ
 reverse o = get_or o.args.opposite.now o.args.k 0 - 1
 
 -- The side is untouched, so it has a reverse.
-untouched : (c : tie.Else1) → let o = start c.before in get_or o.args.counts.now o.args.k 0 ≡ evenly
-untouched c = omega (arith, c.if1.false)
+untouched : (c : tie.Else-counts-k) → let o = start c.before in get_or o.args.counts.now o.args.k 0 ≡ evenly
+untouched c = omega (arith, c.if-counts-k.false)
 
-reversed : (c : tie.Else1) → let o = start c.before in get_or o.args.opposite.now o.args.k 0 ≡ suc (reverse o)
+reversed : (c : tie.Else-counts-k) → let o = start c.before in get_or o.args.opposite.now o.args.k 0 ≡ suc (reverse o)
 reversed c = let o = start c.before in go (ℕ_discrete (get_or o.args.opposite.now o.args.k 0) 0)
   where
     go : let o = start c.before in Dec (get_or o.args.opposite.now o.args.k 0 ≡ 0) → get_or o.args.opposite.now o.args.k 0 ≡ suc (reverse o)
@@ -39,22 +39,22 @@ meet_requires : tie.Need-meet-requires
 meet_requires c κs =
     let t = tested c in
     let o = start t.before in
-    may_take o.pre.1 _ (omega (arith, o.pre.0.sides o.args.k (reverse o) o.pre.3 (reversed t), o.pre.0.three))
+    may_take o.requires.1 _ (omega (arith, o.requires.0.sides o.args.k (reverse o) o.requires.3 (reversed t), o.requires.0.three))
 
-returns_2 : tie.Need-returns-2
+returns_2 : tie.Need-returns
 returns_2 c =
     let m = meet_call c in
     let t = tested m.before in
     let o = start t.before in
-    crossed o.pre.1 o.pre.0 o.pre.2 o.args.k (reverse o) o.pre.3 o.pre.4 (untouched t) (reversed t) m.meet.ensures
+    crossed o.requires.1 o.requires.0 o.requires.2 o.args.k (reverse o) o.requires.3 o.requires.4 (untouched t) (reversed t) m.meet.ensures
 
 pub cross_spec : {M : Type 1} → statement M
 cross_spec =
     tie.close
     (tie.spec
     (λ c. search rules)
-    (λ c. omega (arith, c.before.before.before.before.before.requires.0.number))
-    (λ c. let o = start c.before in (grown_self o.pre.1, o.pre.2, record { at = λ e. absurd (c.if1.true e) }))
+    (λ c. omega (arith, c.requires.0.number))
+    (λ c. let o = start c.before in (grown_self o.requires.1, o.requires.2, record { at = λ e. absurd (c.if-counts-k.true e) }))
     (λ c. search rules)
     (λ c. search rules)
     (λ c. omega (arith, reversed c.before))

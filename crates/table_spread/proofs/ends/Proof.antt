@@ -10,8 +10,8 @@ ends_spec =
     (tie.spec
     (λ c. search rules)
     (λ c. search rules)
-    (λ c. λ w. c.if1.true w.0)
+    (λ c. λ w. c.if-opposite-k-ne0.true w.0)
     (λ c. search rules)
     (λ c. search rules)
-    (λ c. (omega (arith, c.before.before.if1.false), omega (arith, c.if2.true)))
-    (λ c. λ w. c.if2.false w.1))
+    (λ c. (omega (arith, c.if-opposite-k-ne0.false), omega (arith, c.if-counts-k.true)))
+    (λ c. λ w. c.if-counts-k.false w.1))

@@ -11,11 +11,11 @@ meet_spec =
     tie.close
     (tie.spec
     (λ c. search rules)
-    (λ c. stays c.if1.true refl refl refl)
+    (λ c. stays c.if-labels-t.true refl refl refl)
     (λ c. search rules)
-    (λ c. omega (arith, c.before.before.requires.1 c.if1.false))
-    (λ c. c.before.before.requires.1 c.if1.false)
-    (λ c. omega (arith, c.before.before.requires.1 c.if1.false))
+    (λ c. omega (arith, c.requires.1 c.if-labels-t.false))
+    (λ c. c.requires.1 c.if-labels-t.false)
+    (λ c. omega (arith, c.requires.1 c.if-labels-t.false))
     (λ c. search rules)
     (λ c. search rules)
-    (λ c. takes c.if1.false refl refl (omega arith)))
+    (λ c. takes c.if-labels-t.false refl refl (omega arith)))

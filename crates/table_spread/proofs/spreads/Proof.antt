@@ -10,65 +10,65 @@ use Rattle.table_spread.proofs.Spreading.{most, grown_self, grown_more, spread_o
 use Rattle.table_spread.proofs.spreads.Statement.{statement}
 use Rattle.table_spread.proofs.spreads.Tie as tie
 
-abbrev invariant_loop : tie.invariant_loop
+abbrev invariant_loop : tie.invariant-loop-i
 invariant_loop opposite counts labels₀ group₀ first n₀ i₀ labels group n i =
     Grown labels₀ group₀ first labels group n × Forced opposite counts labels × SpreadFrom opposite counts labels group i × (i ≤ n)
 
-abbrev decreases_loop : tie.decreases_loop
+abbrev decreases_loop : tie.decreases-loop-i
 decreases_loop opposite counts labels₀ group₀ first n₀ i₀ labels group n i = length group₀ - i
 
 -- ---- places: the entry of the function, the turn of the loop, the call of `open` and that of `around`
-abbrev start : tie.At-loop invariant_loop decreases_loop → tie.Start invariant_loop decreases_loop
+abbrev start : tie.At-loop-i invariant_loop decreases_loop → tie.Start invariant_loop decreases_loop
 start c = c.before.before.before.before.before
 
-abbrev turn : tie.After-slice-known3 invariant_loop decreases_loop → tie.At-loop invariant_loop decreases_loop
+abbrev turn : tie.After-slice_known-in-loop-i-1 invariant_loop decreases_loop → tie.At-loop-i invariant_loop decreases_loop
 turn c = c.before.before
 
-abbrev around_call : tie.After-slice-known5 invariant_loop decreases_loop → tie.After-around invariant_loop decreases_loop
+abbrev around_call : tie.After-slice_known-in-loop-i-3-1 invariant_loop decreases_loop → tie.After-around-n invariant_loop decreases_loop
 around_call c = c.before.before.before.before
 
-abbrev closed : tie.After-around-arg2 invariant_loop decreases_loop → tie.Else1 invariant_loop decreases_loop
+abbrev closed : tie.After-around-arg-in-loop-i-1 invariant_loop decreases_loop → tie.Else-open invariant_loop decreases_loop
 closed c = c.before.before
 
 -- The triangles have three sides each, whatever is labelled.
-sided : (c : tie.At-loop invariant_loop decreases_loop) → Sided (start c).args.opposite.now (start c).args.counts.now (length c.loop.labels)
-sided c = subst (λ m. Sided (start c).args.opposite.now (start c).args.counts.now m) (sym c.loop.invariant.0.marks) (start c).requires.0
+sided : (c : tie.At-loop-i invariant_loop decreases_loop) → Sided (start c).args.opposite.now (start c).args.counts.now (length c.loop-i.labels)
+sided c = subst (λ m. Sided (start c).args.opposite.now (start c).args.counts.now m) (sym c.loop-i.invariant.0.marks) (start c).requires.0
 
 open_requires : tie.Need-open-requires invariant_loop decreases_loop
 open_requires c κs =
-    let l = (turn c).loop in
+    let l = (turn c).loop-i in
     let o = start (turn c) in
-    let h = in_table l.labels (get_or l.group l.i 0) (l.inv.0.meeting.own l.i (omega arith)) in
-    (omega (arith, h, (sided (turn c)).three), o.pre.0.number)
+    let h = in_table l.labels (get_or l.group l.i 0) (l.invariant.0.meeting.own l.i (omega arith)) in
+    (omega (arith, h, (sided (turn c)).three), o.requires.0.number)
 
-returns : tie.Need-returns invariant_loop decreases_loop
+returns : tie.Need-returns-then-open invariant_loop decreases_loop
 returns c =
     let q = c.before in
     let l = turn q.before in
-    let t = get_or l.loop.group l.loop.i 0 in (
-      l.loop.inv.0.marks,
-      l.loop.inv.0.still,
-      open_none (sided l) l.loop.inv.1 t (l.loop.inv.0.meeting.own l.loop.i (omega arith)) (told_true _ _ q.open.result c.if1.true q.open.ensures),
+    let t = get_or l.loop-i.group l.loop-i.i 0 in (
+      l.loop-i.invariant.0.marks,
+      l.loop-i.invariant.0.still,
+      open_none (sided l) l.loop-i.invariant.1 t (l.loop-i.invariant.0.meeting.own l.loop-i.i (omega arith)) (told_true _ _ q.«open».result c.if-open.true q.«open».ensures),
     )
 
-around_requires : tie.Need-around-requires invariant_loop decreases_loop
+around_requires : tie.Need-around-n-requires invariant_loop decreases_loop
 around_requires c κs =
     let e = closed c in
     let q = e.before in
     let l = turn q.before in
-    let g = l.loop.inv.0.meeting in
-    (sided l, g, l.loop.inv.1, g.own l.loop.i (omega arith), told_false _ _ q.open.result e.if1.left q.open.ensures)
+    let g = l.loop-i.invariant.0.meeting in
+    (sided l, g, l.loop-i.invariant.1, g.own l.loop-i.i (omega arith), told_false _ _ q.«open».result e.if-open.false q.«open».ensures)
 
-loop_again : tie.Need-loop-preserved invariant_loop decreases_loop
+loop_again : tie.Need-loop-i-preserved invariant_loop decreases_loop
 loop_again c =
     let d = around_call c in
-    let l = (turn (closed d.before).before.before).loop in
-    let a = d.around.ensures in
-    (grown_more l.inv.0 a.0, a.1, spread_one a.0 l.i (omega arith) l.inv.2 a.2, omega (arith, a.0.more))
+    let l = (turn (closed d.before).before.before).loop-i in
+    let a = d.around-n.ensures in
+    (grown_more l.invariant.0 a.0, a.1, spread_one a.0 l.i (omega arith) l.invariant.2 a.2, omega (arith, a.0.more))
 
-returns_2 : tie.Need-returns-2 invariant_loop decreases_loop
+returns_2 : tie.Need-returns invariant_loop decreases_loop
 returns_2 c =
-    let l = c.before.loop in
+    let l = c.loop-i in
     (l.invariant.0.marks, l.invariant.0.still, all_spread l.invariant.0.meeting l.invariant.1 (λ j h. l.invariant.2 j (omega arith)))
 
 pub spreads_spec : {M : Type 1} → statement M
@@ -77,17 +77,17 @@ spreads_spec =
     (tie.spec
     invariant_loop
     decreases_loop
-    (λ c. let o = c.before.before.before.before in (grown_self o.requires.1, o.requires.2, λ j h. absurd (omega arith), omega arith))
-    (λ c. let l = c.before.loop in omega (arith, most l.invariant.0.meeting))
-    (λ c. let l = c.before.before.loop in omega (arith, most l.invariant.0.meeting))
+    (λ c. let o = c in (grown_self o.requires.1, o.requires.2, λ j h. absurd (omega arith), omega arith))
+    (λ c. let l = c.loop-i in omega (arith, most l.invariant.0.meeting))
+    (λ c. let l = c.loop-i in omega (arith, most l.invariant.0.meeting))
     open_requires
-    (λ c. (turn c.before.before).loop.inv.0.marks)
-    (λ c. (turn c.before.before).loop.inv.0.places)
+    (λ c. (turn c.before.before).loop-i.invariant.0.marks)
+    (λ c. (turn c.before.before).loop-i.invariant.0.places)
     returns
     around_requires
-    (λ c. let l = (turn (closed (around_call c).before).before.before).loop in omega (arith, most l.inv.0.meeting))
-    (λ c. let l = (turn (closed (around_call c).before).before.before).loop in omega (arith, most l.inv.0.meeting, l.inv.0.places))
+    (λ c. let l = (turn (closed (around_call c).before).before.before).loop-i in omega (arith, most l.invariant.0.meeting))
+    (λ c. let l = (turn (closed (around_call c).before).before.before).loop-i in omega (arith, most l.invariant.0.meeting, l.invariant.0.places))
     loop_again
-    (λ c. c.before.loop.invariant.0.marks)
-    (λ c. c.before.loop.invariant.0.places)
+    (λ c. c.loop-i.invariant.0.marks)
+    (λ c. c.loop-i.invariant.0.places)
     returns_2)

@@ -17,60 +17,60 @@ added_at counts (suc k) up h e =
     let p : suc k - 1 ≡ k = omega arith in
     rw p (ap (set counts k) (rw p at e))
 
-returns : tie.Need-returns
+returns : tie.Need-returns-then-s-eq0
 returns c = search rules
 
-sub_counts : tie.Need-overflow-sub-counts
+sub_counts : tie.Need-overflow_sub-counts
 sub_counts c = search rules
 
-mul_counts : tie.Need-overflow-mul-counts
+mul_counts : tie.Need-offset_bounds-counts-s
 mul_counts c = search rules
 
-slice_read_counts : tie.Need-slice-read-counts
+slice_read_counts : tie.Need-bounds-counts-s
 slice_read_counts c = search rules
 
-add_counts : tie.Need-overflow-add-counts
+add_counts : tie.Need-overflow_add-counts
 add_counts c =
-    let s = c.before.before.before in
+    let s = c in
     let h = (s.requires.1 (s.args.s - 1) (omega arith)).1 in
     omega arith
 
-slice_write_counts : tie.Need-slice-write-counts
+slice_write_counts : tie.Need-bounds-counts-s-then-up
 slice_write_counts c = search rules
 
-sub_counts_2 : tie.Need-overflow-sub-counts-2
+sub_counts_2 : tie.Need-overflow_sub-counts-else-up
 sub_counts_2 c = search rules
 
-mul_counts_2 : tie.Need-overflow-mul-counts-2
+mul_counts_2 : tie.Need-offset_bounds-counts-s-else-up
 mul_counts_2 c = search rules
 
-slice_read_counts_2 : tie.Need-slice-read-counts-2
+slice_read_counts_2 : tie.Need-bounds-counts-s-else-up
 slice_read_counts_2 c = search rules
 
-sub_counts_3 : tie.Need-overflow-sub-counts-3
+sub_counts_3 : tie.Need-overflow_sub-counts-else-up-2
 sub_counts_3 c =
-    let s = c.before.before.before in
+    let s = c in
     let h = (s.requires.1 (s.args.s - 1) (omega arith)).0 in
     omega arith
 
-slice_write_counts_2 : tie.Need-slice-write-counts-2
+slice_write_counts_2 : tie.Need-bounds-counts-s-else-up-2
 slice_write_counts_2 c = search rules
 
-same_length : tie.Need-same-length
+same_length : tie.Need-shape_of-counts-then-up
 same_length c = search rules
 
-returns_2 : tie.Need-returns-2
+returns_2 : tie.Need-returns-then-up
 returns_2 c =
-    let a = c.before.before.before.args in
-    added_at a.counts.now a.s a.up (omega arith) (rw c.before.if2.true)
+    let a = c.args in
+    added_at a.counts.now a.s a.up (omega arith) (rw c.if-up.true)
 
-same_length_2 : tie.Need-same-length-2
+same_length_2 : tie.Need-shape_of-counts-else-up
 same_length_2 c = search rules
 
-returns_3 : tie.Need-returns-3
+returns_3 : tie.Need-returns-else-up
 returns_3 c =
-    let a = c.before.before.before.args in
-    added_at a.counts.now a.s a.up (omega arith) (rw c.before.if2.false)
+    let a = c.args in
+    added_at a.counts.now a.s a.up (omega arith) (rw c.if-up.false)
 
 pub add_spec : {M : Type 1} → statement M
 add_spec =

@@ -6,13 +6,13 @@ use Rattle.table_tally.specs.Direct.{noted_at}
 use Rattle.table_tally.proofs.either_noted.Statement.{statement}
 use Rattle.table_tally.proofs.either_noted.Tie as tie
 
-returns : tie.Need-returns
-returns c = let s = c.before.before.before in ap (λ b. b || noted_at s.args.index.now s.args.o) (sym c.if1.true ∙ c.before.noted.ensures)
+returns : tie.Need-returns-then-noted
+returns c = let s = c in ap (λ b. b || noted_at s.args.index.now s.args.o) (sym c.if-noted.true ∙ c.noted.ensures)
 
-returns_2 : tie.Need-returns-2
+returns_2 : tie.Need-returns
 returns_2 c =
-    let s = c.before.before.before.before in
-    c.noted2.ensures ∙ ap (λ b. b || noted_at s.args.index.now s.args.o) (sym c.before.if1.false ∙ c.before.before.noted.ensures)
+    let s = c in
+    c.noted-2.ensures ∙ ap (λ b. b || noted_at s.args.index.now s.args.o) (sym c.if-noted.false ∙ c.noted.ensures)
 
 pub either_noted_spec : {M : Type 1} → statement M
 either_noted_spec = tie.close (tie.spec (λ c κs. search rules) returns (λ c κs. search rules) returns_2)

@@ -4,20 +4,20 @@ use borrow.Author.Rules.{rules}
 use Rattle.table_trim.proofs.corner_before.Statement.{statement}
 use Rattle.table_trim.proofs.corner_before.Tie as tie
 
-sub_result : tie.Need-overflow-sub-result
+sub_result : tie.Need-overflow_sub-result
 sub_result c = search rules
 
-mul_result : tie.Need-overflow-mul-result
+mul_result : tie.Need-offset_bounds-corners-at
 mul_result c = search rules
 
-shared_slice_read_result : tie.Need-shared-slice-read-result
+shared_slice_read_result : tie.Need-bounds-corners-at
 shared_slice_read_result c = search rules
 
-returns : tie.Need-returns
-returns c = rw (lt-ltb 0 c.before.before.args.at c.before.if1.true)
+returns : tie.Need-returns-then-at-gt0
+returns c = rw (lt-ltb 0 c.args.at c.if-at-gt0.true)
 
-returns_2 : tie.Need-returns-2
-returns_2 c = rw (le-ltb 0 c.before.args.at c.if1.false)
+returns_2 : tie.Need-returns
+returns_2 c = rw (le-ltb 0 c.args.at c.if-at-gt0.false)
 
 pub corner_before_spec : {M : Type 1} → statement M
 corner_before_spec =

@@ -9,37 +9,37 @@ use Rattle.table_trim.proofs.Ends.{first_stop, headed_same, headed_first}
 use Rattle.table_trim.proofs.head.Statement.{statement}
 use Rattle.table_trim.proofs.head.Tie as tie
 
-returns : tie.Need-returns
+returns : tie.Need-returns-then-u-v
 returns c =
-    let s = c.before.before in
+    let s = c in
     let a = s.args in
-    headed_same a.corners.now a.u a.v s.requires.2 s.requires.3 (inr c.if1.true) s.requires.4
+    headed_same a.corners.now a.u a.v s.requires.2 s.requires.3 (inr c.if-u-v.true) s.requires.4
 
-returns_2 : tie.Need-returns-2
+returns_2 : tie.Need-returns-then-rank-ne0
 returns_2 c =
-    let s = c.before.before.before.before in
+    let s = c in
     let a = s.args in
-    let k = ranked a.corners.now a.u s.requires.0 (λ e. c.if2.true (c.before.rank.ensures ∙ e)) in
+    let k = ranked a.corners.now a.u s.requires.0 (λ e. c.if-rank-ne0.true (c.rank.ensures ∙ e)) in
     headed_same a.corners.now a.u a.v s.requires.2 s.requires.3 (inl k.stands) s.requires.4
 
 -- u is before v.
-onward : (c : tie.Else1) → c.before.before.args.u < c.before.before.args.v
-onward c = let n = c.if1.false in omega (arith, c.before.before.requires.4)
+onward : (c : tie.Else-u-v) → c.args.u < c.args.v
+onward c = let n = c.if-u-v.false in omega (arith, c.requires.4)
 
-next_stop_requires : tie.Need-next-stop-requires
+next_stop_requires : tie.Need-next_stop-r-requires
 next_stop_requires c κs =
-    let s = c.before.before.before.before.before in
-    (s.requires.0, s.requires.1, s.requires.2, s.requires.3, onward c.before.before.before, c.place.ensures.1)
+    let s = c in
+    (s.requires.0, s.requires.1, s.requires.2, s.requires.3, onward c.before.before.before, c.place-at.ensures.1)
 
-returns_3 : tie.Need-returns-3
+returns_3 : tie.Need-returns
 returns_3 c =
-    let s = c.before.before.before.before.before.before.before in
+    let s = c in
     let a = s.args in
-    let d = c.before.before in
+    let d = c in
     let h = onward c.before.before.before.before.before in
-    let f = first_stop a.corners.now s.requires.0 s.requires.1 a.u a.v h s.requires.3 d.place.result c.before.next-stop.result c.corner-or.result d.place.ensures.0 c.before.next-stop.ensures c.corner-or.ensures in
-    let n = not_ranked a.corners.now a.u s.requires.0 (sym c.before.before.before.before.rank.ensures ∙ c.before.before.before.if2.false) in
-    headed_first a.corners.now a.u a.v s.requires.2 s.requires.3 n c.corner-or.result f.onward f.within f.key f.ends f.law
+    let f = first_stop a.corners.now s.requires.0 s.requires.1 a.u a.v h s.requires.3 d.place-at.result c.next_stop-r.result c.corner_or.result d.place-at.ensures.0 c.next_stop-r.ensures c.corner_or.ensures in
+    let n = not_ranked a.corners.now a.u s.requires.0 (sym c.rank.ensures ∙ c.if-rank-ne0.false) in
+    headed_first a.corners.now a.u a.v s.requires.2 s.requires.3 n c.corner_or.result f.onward f.within f.key f.ends f.law
 
 pub head_spec : {M : Type 1} → statement M
 head_spec =

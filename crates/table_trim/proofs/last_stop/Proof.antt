@@ -17,10 +17,10 @@ use Rattle.whole_order.specs.Ascending.{Ascending}
 use Rattle.table_trim.proofs.last_stop.Statement.{statement}
 use Rattle.table_trim.proofs.last_stop.Tie as tie
 
-abbrev invariant_loop : tie.invariant_loop
+abbrev invariant_loop : tie.invariant-loop-i
 invariant_loop corners at u v i₀ i = (i ≤ at) × (at ≤ length corners) × ((j : ℕ) → i ≤ j → j < at → T (between (point_at (get_or corners j 0)) (pair u v)) → ⊥)
 
-abbrev decreases_loop : tie.decreases_loop
+abbrev decreases_loop : tie.decreases-loop-i
 decreases_loop corners at u v i₀ i = i
 
 abbrev None : List ℕ → ℕ → ℕ → ℕ → ℕ → Type 0
@@ -48,51 +48,51 @@ told e t = subst T (sym t ∙ e) tt
 told_not : {b r : Bool} → r ≡ b → r ≡ false → T b → ⊥
 told_not e f t = subst T (sym e ∙ f) t
 
-loop_holds : tie.Need-loop-init invariant_loop decreases_loop
-loop_holds c = (omega arith, c.before.requires.5, λ j h k. absurd (omega arith))
+loop_holds : tie.Need-loop-i-init invariant_loop decreases_loop
+loop_holds c = (omega arith, c.requires.5, λ j h k. absurd (omega arith))
 
-sub_c : tie.Need-overflow-sub-c invariant_loop decreases_loop
+sub_c : tie.Need-overflow_sub-c invariant_loop decreases_loop
 sub_c c = omega arith
 
-mul_c : tie.Need-overflow-mul-c invariant_loop decreases_loop
+mul_c : tie.Need-offset_bounds-corners-i invariant_loop decreases_loop
 mul_c c = omega arith
 
-shared_slice_read_c : tie.Need-shared-slice-read-c invariant_loop decreases_loop
+shared_slice_read_c : tie.Need-bounds-corners-i invariant_loop decreases_loop
 shared_slice_read_c c = omega arith
 
-returns : tie.Need-returns invariant_loop decreases_loop
+returns : tie.Need-returns-then-c-u invariant_loop decreases_loop
 returns c =
-    let s = c.before.before.before.before.before in
+    let s = c in
     let a = s.args in
-    let l = c.before.before.before.loop in
-    record { within = omega arith; stop = λ h. absurd (omega arith); last = λ j h k t. below a.corners.now a.at l.i j a.u a.v s.requires.0 s.requires.4 (omega arith) (omega arith) c.if1.true l.invariant.2 k t }
+    let l = c.loop-i in
+    record { within = omega arith; stop = λ h. absurd (omega arith); last = λ j h k t. below a.corners.now a.at l.i j a.u a.v s.requires.0 s.requires.4 (omega arith) (omega arith) c.if-c-u.true l.invariant.2 k t }
 
-on_way_requires : tie.Need-on-way-requires invariant_loop decreases_loop
+on_way_requires : tie.Need-on_way-requires invariant_loop decreases_loop
 on_way_requires c κs =
-    let s = c.before.before.before.before.before in
-    (all_at Key 0 s.args.corners.now (c.before.before.before.loop.i - 1) s.requires.1 (omega arith), s.requires.2, s.requires.3)
+    let s = c in
+    (all_at Key 0 s.args.corners.now (c.loop-i.i - 1) s.requires.1 (omega arith), s.requires.2, s.requires.3)
 
-returns_2 : tie.Need-returns-2 invariant_loop decreases_loop
+returns_2 : tie.Need-returns-then-on_way invariant_loop decreases_loop
 returns_2 c =
-    let l = c.before.before.before.before.before.loop in
-    record { within = l.invariant.0; stop = λ h. told c.before.on-way.ensures c.if2.true; last = l.invariant.2 }
+    let l = c.loop-i in
+    record { within = l.invariant.0; stop = λ h. told c.on_way.ensures c.if-on_way.true; last = l.invariant.2 }
 
-sub_i : tie.Need-overflow-sub-i invariant_loop decreases_loop
+sub_i : tie.Need-overflow_sub-i invariant_loop decreases_loop
 sub_i c = omega arith
 
-loop_less : tie.Need-loop-smaller invariant_loop decreases_loop
+loop_less : tie.Need-loop-i-smaller invariant_loop decreases_loop
 loop_less c = omega arith
 
-loop_again : tie.Need-loop-preserved invariant_loop decreases_loop
+loop_again : tie.Need-loop-i-preserved invariant_loop decreases_loop
 loop_again c =
-    let s = c.before.before.before.before.before.before.before in
+    let s = c in
     let a = s.args in
-    let l = c.before.before.before.before.before.loop in
-    (omega arith, l.invariant.1, λ j h k t. one_less a.corners.now a.at l.i j a.u a.v (told_not c.before.on-way.ensures c.if2.false) l.invariant.2 h k t)
+    let l = c.loop-i in
+    (omega arith, l.invariant.1, λ j h k t. one_less a.corners.now a.at l.i j a.u a.v (told_not c.on_way.ensures c.if-on_way.false) l.invariant.2 h k t)
 
-returns_3 : tie.Need-returns-3 invariant_loop decreases_loop
+returns_3 : tie.Need-returns invariant_loop decreases_loop
 returns_3 c =
-    let l = c.before.loop in
+    let l = c.loop-i in
     record { within = omega arith; stop = λ h. absurd (omega arith); last = λ j h k t. l.invariant.2 j (omega arith) k t }
 
 pub last_stop_spec : {M : Type 1} → statement M

@@ -10,35 +10,35 @@ use Rattle.table_trim.proofs.Ends.{ordered, either, left_either}
 use Rattle.table_trim.proofs.left.Statement.{statement}
 use Rattle.table_trim.proofs.left.Tie as tie
 
-head_requires : tie.Need-head-requires
+head_requires : tie.Need-head-x-requires
 head_requires c κs =
-    let s = c.before.before.before in
+    let s = c in
     let a = s.args in
     let lower = c.lower in
-    let higher = c.before.higher in
+    let higher = c.higher-v in
     (s.requires.0, s.requires.1, subst Key (sym lower.ensures) (either Key (ltb a.p a.q) a.p a.q s.requires.2 s.requires.3), subst Key (sym higher.ensures) (either Key (ltb a.p a.q) a.q a.p s.requires.3 s.requires.2), omega (arith, ordered a.p a.q, lower.ensures, higher.ensures))
 
-tail_requires : tie.Need-tail-requires
+tail_requires : tie.Need-tail-y-requires
 tail_requires c κs =
-    let s = c.before.before.before.before in
+    let s = c in
     let a = s.args in
-    let higher = c.before.before.higher in
-    let h = c.head.ensures in
+    let higher = c.higher-v in
+    let h = c.head-x.ensures in
     (s.requires.0, s.requires.1, h.key, subst Key (sym higher.ensures) (either Key (ltb a.p a.q) a.q a.p s.requires.3 s.requires.2), h.before, h.ends)
 
 returns : tie.Need-returns
 returns c =
-    let s = c.before.before.before.before.before.before.before in
+    let s = c in
     let a = s.args in
-    let lower = c.before.before.before.before.lower in
-    let higher = c.before.before.before.before.before.higher in
-    let head = c.before.before.before.head in
-    let tail = c.before.before.tail in
+    let lower = c.lower in
+    let higher = c.higher-v in
+    let head = c.head-x in
+    let tail = c.tail-y in
     let b = ltb a.p a.q in
     let h : Headed a.corners.now (cond b a.p a.q) (cond b a.q a.p) head.result = subst (λ z. Headed a.corners.now z (cond b a.q a.p) head.result) lower.ensures (subst (λ z. Headed a.corners.now lower.result z head.result) higher.ensures head.ensures) in
     let t : Tailed a.corners.now head.result (cond b a.q a.p) tail.result = subst (λ z. Tailed a.corners.now head.result z tail.result) higher.ensures tail.ensures in
     let l = left_either a.corners.now a.p a.q head.result tail.result b h t in
-    subst (λ z. Left a.corners.now a.p a.q z c.pick2.result) (sym c.before.pick.ensures) (subst (λ z. Left a.corners.now a.p a.q (cond b head.result tail.result) z) (sym c.pick2.ensures) l)
+    subst (λ z. Left a.corners.now a.p a.q z c.pick-2.result) (sym c.pick.ensures) (subst (λ z. Left a.corners.now a.p a.q (cond b head.result tail.result) z) (sym c.pick-2.ensures) l)
 
 pub left_spec : {M : Type 1} → statement M
 left_spec =

@@ -19,15 +19,15 @@ stays l s t x e = rw (eq-eqb s t e) (sym (nothing_behind l))
 behind : (l : List ℕ) (m s t x : ℕ) → (s ≡ t → ⊥) → m < length l → take (m + 1) (set l m x) ≡ take m l ++ unless (eqb s t) x
 behind l m s t x n h = let q : m + 1 ≡ suc m = omega arith in rw (ne_eqb s t n, q) (take-suc-set l m x h)
 
-returns : tie.Need-returns
+returns : tie.Need-returns-then-s-t
 returns c =
-    let a = c.before.args in
-    (omega arith, stays (take a.m a.fs.now) a.s a.t a.s c.if1.true, stays (take a.m a.ts.now) a.s a.t a.t c.if1.true)
+    let a = c.args in
+    (omega arith, stays (take a.m a.fs.now) a.s a.t a.s c.if-s-t.true, stays (take a.m a.ts.now) a.s a.t a.t c.if-s-t.true)
 
-returns_2 : tie.Need-returns-2
+returns_2 : tie.Need-returns
 returns_2 c =
-    let a = c.before.args in
-    (omega arith, behind a.fs.now a.m a.s a.t a.s c.if1.false c.before.requires.0, behind a.ts.now a.m a.s a.t a.t c.if1.false c.before.requires.1)
+    let a = c.args in
+    (omega arith, behind a.fs.now a.m a.s a.t a.s c.if-s-t.false c.requires.0, behind a.ts.now a.m a.s a.t a.t c.if-s-t.false c.requires.1)
 
 pub put_spec : {M : Type 1} → statement M
 put_spec =

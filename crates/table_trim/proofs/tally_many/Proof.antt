@@ -10,15 +10,15 @@ use Rattle.table_trim.proofs.Fresh.{all_replicate, all_fresh}
 use Rattle.table_trim.proofs.tally_many.Statement.{statement}
 use Rattle.table_trim.proofs.tally_many.Tie as tie
 
-slice_aggregate_begins : tie.Need-slice-aggregate-tally-in-5
-slice_aggregate_begins c = sym (length-take-le _ _ (omega (arith, c.before.before.before.before.before.before.before.before.before.before.requires.0.1.few)))
+slice_aggregate_begins : tie.Need-slice_bounds-tally_in-end-5
+slice_aggregate_begins c = sym (length-take-le _ _ (omega (arith, c.requires.0.1.few)))
 
-slice_aggregate_ends : tie.Need-slice-aggregate-tally-in-6
-slice_aggregate_ends c = sym (length-take-le _ _ (omega (arith, c.before.before.before.before.before.before.before.before.before.before.before.requires.0.1.few)))
+slice_aggregate_ends : tie.Need-slice_bounds-tally_in-end-6
+slice_aggregate_ends c = sym (length-take-le _ _ (omega (arith, c.requires.0.1.few)))
 
-tally_in_requires : tie.Need-tally-in-requires
+tally_in_requires : tie.Need-tally_in-requires
 tally_in_requires c κs =
-    let s = c.before.before.before.before.before.before.before.before.before.before.before.before.before in
+    let s = c in
     let n = length s.args.corners.now in (
       s.requires.0,
       s.requires.1,

@@ -12,100 +12,100 @@ use Rattle.table_trim.proofs.Trims.{trimmed_none, trimmed_put, trimmed_all, trim
 use Rattle.table_trim.proofs.trim_all.Statement.{statement}
 use Rattle.table_trim.proofs.trim_all.Tie as tie
 
-abbrev invariant_loop : tie.invariant_loop
+abbrev invariant_loop : tie.invariant-loop-i
 invariant_loop corners from to fs₀ ts₀ us₀ vs₀ m₀ n₀ i₀ fs ts us vs m n i = (i ≤ length from) × (m ≤ i) × (n ≤ 2 * i) × (length fs ≡ length fs₀) × (length ts ≡ length ts₀) × (length us ≡ length us₀) × (length vs ≡ length vs₀)
     × Trimmed corners from to i (take m fs) (take m ts) (pairs (take n us) (take n vs))
 
-abbrev decreases_loop : tie.decreases_loop
+abbrev decreases_loop : tie.decreases-loop-i
 decreases_loop corners from to fs₀ ts₀ us₀ vs₀ m₀ n₀ i₀ fs ts us vs m n i = length from - i
 
 -- ---- places
-abbrev start : tie.At-loop invariant_loop decreases_loop → tie.Start invariant_loop decreases_loop
+abbrev start : tie.At-loop-i invariant_loop decreases_loop → tie.Start invariant_loop decreases_loop
 start c = c.before.before.before.before.before.before.before.before
 
-abbrev looped : tie.After-left invariant_loop decreases_loop → tie.At-loop invariant_loop decreases_loop
+abbrev looped : tie.After-left-rest invariant_loop decreases_loop → tie.At-loop-i invariant_loop decreases_loop
 looped c = c.before.before.before.before
 
 -- ---- the needs
-loop_holds : tie.Need-loop-init invariant_loop decreases_loop
+loop_holds : tie.Need-loop-i-init invariant_loop decreases_loop
 loop_holds c =
-    let s = c.before.before.before.before.before.before.before in
+    let s = c in
     (omega arith, omega arith, omega arith, refl, refl, refl, refl, trimmed_none s.args.corners.now s.args.from.now s.args.to.now s.requires.0 s.requires.1 s.requires.7)
 
-left_requires : tie.Need-left-requires invariant_loop decreases_loop
+left_requires : tie.Need-left-rest-requires invariant_loop decreases_loop
 left_requires c κs =
-    let l = c.before.before.before.loop in
+    let l = c.loop-i in
     let s = start c.before.before.before in
-    (s.pre.0, s.pre.1, all_at Key 0 s.args.from.now l.i s.pre.2.from_keys (omega arith), all_at Key 0 s.args.to.now l.i s.pre.2.to_keys (omega (arith, s.pre.2.as_many)))
+    (s.requires.0, s.requires.1, all_at Key 0 s.args.from.now l.i s.requires.2.from_keys (omega arith), all_at Key 0 s.args.to.now l.i s.requires.2.to_keys (omega (arith, s.requires.2.as_many)))
 
-come_requires : tie.Need-come-requires invariant_loop decreases_loop
+come_requires : tie.Need-come-n-requires invariant_loop decreases_loop
 come_requires c κs =
     let d = c.before.before.before in
-    let l = (looped d).loop in
+    let l = (looped d).loop-i in
     let s = start (looped d) in
-    (omega (arith, l.inv.2, l.inv.5, s.pre.5), omega (arith, l.inv.2, l.inv.6, s.pre.6))
+    (omega (arith, l.invariant.2, l.invariant.5, s.requires.5), omega (arith, l.invariant.2, l.invariant.6, s.requires.6))
 
-come_requires_2 : tie.Need-come-requires-2 invariant_loop decreases_loop
+come_requires_2 : tie.Need-come-n-requires-in-loop-i invariant_loop decreases_loop
 come_requires_2 c κs =
-    let e = c.before.before.before.before.before.before.before.come in
+    let e = c.come-n in
     let d = c.before.before.before.before.before.before.before.before.before.before.before in
-    let l = (looped d).loop in
+    let l = (looped d).loop-i in
     let s = start (looped d) in
-    (omega (arith, l.inv.2, l.inv.5, s.pre.5, e.ensures.0, e.auto.0), omega (arith, l.inv.2, l.inv.6, s.pre.6, e.ensures.0, e.auto.1.0))
+    (omega (arith, l.invariant.2, l.invariant.5, s.requires.5, e.ensures.0, e.auto.us), omega (arith, l.invariant.2, l.invariant.6, s.requires.6, e.ensures.0, e.auto.vs))
 
-put_requires : tie.Need-put-requires invariant_loop decreases_loop
+put_requires : tie.Need-put-m-requires invariant_loop decreases_loop
 put_requires c κs =
     let d = c.before.before.before.before.before.before.before.before.before.before.before.before.before.before.before.before.before.before in
-    let l = (looped d).loop in
+    let l = (looped d).loop-i in
     let s = start (looped d) in
-    (omega (arith, l.inv.1, l.inv.3, s.pre.3), omega (arith, l.inv.1, l.inv.4, s.pre.4))
+    (omega (arith, l.invariant.1, l.invariant.3, s.requires.3), omega (arith, l.invariant.1, l.invariant.4, s.requires.4))
 
-loop_again : tie.Need-loop-preserved invariant_loop decreases_loop
+loop_again : tie.Need-loop-i-preserved invariant_loop decreases_loop
 loop_again c =
-    let p = c.before.before.before.before.put in
-    let e = c.before.before.before.before.before.before.before.before.before.before.before.come2 in
-    let f = c.before.before.before.before.before.before.before.before.before.before.before.before.before.before.before.before.before.before.before.come in
+    let p = c.put-m in
+    let e = c.come-n-in-loop-i in
+    let f = c.come-n in
     let d = c.before.before.before.before.before.before.before.before.before.before.before.before.before.before.before.before.before.before.before.before.before.before.before in
-    let l = (looped d).loop in
+    let l = (looped d).loop-i in
     let s = start (looped d) in
     let a = s.args in
-    let t = trimmed_put a.corners.now a.from.now a.to.now l.i (omega arith) (omega (arith, s.pre.2.as_many)) (omega (arith, s.pre.2.few)) (take l.m l.fs) (take l.m l.ts) (pairs (take l.n l.us) (take l.n l.vs))
-    (pairs (take f.result f.new.0) (take f.result f.new.1.0)) (pairs (take e.result e.new.0) (take e.result e.new.1.0)) d.left.result.from d.left.result.to l.inv.7 d.left.ensures f.ensures.1 e.ensures.1 (take p.result p.new.0) (take p.result p.new.1.0) p.ensures.1 p.ensures.2 in (
+    let t = trimmed_put a.corners.now a.from.now a.to.now l.i (omega arith) (omega (arith, s.requires.2.as_many)) (omega (arith, s.requires.2.few)) (take l.m l.fs) (take l.m l.ts) (pairs (take l.n l.us) (take l.n l.vs))
+    (pairs (take f.result f.new.us) (take f.result f.new.vs)) (pairs (take e.result e.new.us) (take e.result e.new.vs)) d.left-rest.result.from d.left-rest.result.to l.invariant.7 d.left-rest.ensures f.ensures.1 e.ensures.1 (take p.result p.new.fs) (take p.result p.new.ts) p.ensures.1 p.ensures.2 in (
       (let d = c.before.before.before.before.before.before.before.before.before.before.before.before.before.before.before.before.before.before.before.before.before.before.before.before.before.before in omega arith),
-      omega (arith, p.ensures.0, l.inv.1),
-      omega (arith, e.ensures.0, f.ensures.0, l.inv.2),
-      p.auto.0 ∙ l.inv.3,
-      p.auto.1.0 ∙ l.inv.4,
-      e.auto.0 ∙ f.auto.0 ∙ l.inv.5,
-      e.auto.1.0 ∙ f.auto.1.0 ∙ l.inv.6,
+      omega (arith, p.ensures.0, l.invariant.1),
+      omega (arith, e.ensures.0, f.ensures.0, l.invariant.2),
+      p.auto.fs ∙ l.invariant.3,
+      p.auto.ts ∙ l.invariant.4,
+      e.auto.us ∙ f.auto.us ∙ l.invariant.5,
+      e.auto.vs ∙ f.auto.vs ∙ l.invariant.6,
       t,
     )
 
 -- What stands behind the loop.
-whole : (c : tie.After-loop invariant_loop decreases_loop) → let s = start c.before in let l = c.before.loop in length s.args.from.now ≤ l.i
+whole : (c : tie.After-loop-i invariant_loop decreases_loop) → let s = start c.before in let l = c.loop-i in length s.args.from.now ≤ l.i
 whole c = omega arith
 
-returns : tie.Need-returns invariant_loop decreases_loop
+returns : tie.Need-returns-then-n-eq0 invariant_loop decreases_loop
 returns c =
-    let l = c.before.before.loop in
+    let l = c.loop-i in
     let s = start c.before.before in
     let a = s.args in
-    let none : pairs (take l.n l.us) (take l.n l.vs) ≡ [] = ap (λ z. pairs (take z l.us) (take z l.vs)) c.if1.true in
-    let t = trimmed_all a.corners.now a.from.now a.to.now (take l.m l.fs) (take l.m l.ts) l.i (pairs (take l.n l.us) (take l.n l.vs)) s.pre.2.as_many (whole c.before) l.invariant.7 none in (
+    let none : pairs (take l.n l.us) (take l.n l.vs) ≡ [] = ap (λ z. pairs (take z l.us) (take z l.vs)) c.if-n-eq0.true in
+    let t = trimmed_all a.corners.now a.from.now a.to.now (take l.m l.fs) (take l.m l.ts) l.i (pairs (take l.n l.us) (take l.n l.vs)) s.requires.2.as_many (whole c.before) l.invariant.7 none in (
       λ e. absurd (omega arith),
       λ n e.
           let r : l.m ≡ n = omega arith in
           (omega (arith, l.invariant.1, l.invariant.0), subst (λ z. Reduced a.corners.now a.from.now a.to.now (take z l.fs) (take z l.ts)) r t),
     )
 
-returns_2 : tie.Need-returns-2 invariant_loop decreases_loop
+returns_2 : tie.Need-returns invariant_loop decreases_loop
 returns_2 c =
-    let l = c.before.before.loop in
+    let l = c.loop-i in
     let s = start c.before.before in
     let a = s.args in
-    let n = c.if1.false in
-    let o = some_pair l.n l.us l.vs (omega arith) (omega (arith, l.invariant.0, l.invariant.2, l.invariant.5, s.pre.5)) (omega (arith, l.invariant.0, l.invariant.2, l.invariant.6, s.pre.6)) in (
-      λ e. trimmed_astray a.corners.now a.from.now a.to.now (take l.m l.fs) (take l.m l.ts) l.i (pairs (take l.n l.us) (take l.n l.vs)) s.pre.2.as_many (whole c.before) l.invariant.7 o.0 o.1,
+    let n = c.if-n-eq0.false in
+    let o = some_pair l.n l.us l.vs (omega arith) (omega (arith, l.invariant.0, l.invariant.2, l.invariant.5, s.requires.5)) (omega (arith, l.invariant.0, l.invariant.2, l.invariant.6, s.requires.6)) in (
+      λ e. trimmed_astray a.corners.now a.from.now a.to.now (take l.m l.fs) (take l.m l.ts) l.i (pairs (take l.n l.us) (take l.n l.vs)) s.requires.2.as_many (whole c.before) l.invariant.7 o.0 o.1,
       λ n e. absurd (omega arith),
     )
 
@@ -132,13 +132,13 @@ trim_all_spec =
     (λ c. let d = c.before.before.before.before.before.before.before.before.before.before.before.before.before.before.before.before.before.before.before.before.before.before.before.before.before.before in omega arith)
     loop_again
     (λ c. search rules)
-    (λ c. c.before.before.loop.invariant.3)
-    (λ c. c.before.before.loop.invariant.4)
-    (λ c. c.before.before.loop.invariant.5)
-    (λ c. c.before.before.loop.invariant.6)
+    (λ c. c.loop-i.invariant.3)
+    (λ c. c.loop-i.invariant.4)
+    (λ c. c.loop-i.invariant.5)
+    (λ c. c.loop-i.invariant.6)
     returns
-    (λ c. c.before.before.loop.invariant.3)
-    (λ c. c.before.before.loop.invariant.4)
-    (λ c. c.before.before.loop.invariant.5)
-    (λ c. c.before.before.loop.invariant.6)
+    (λ c. c.loop-i.invariant.3)
+    (λ c. c.loop-i.invariant.4)
+    (λ c. c.loop-i.invariant.5)
+    (λ c. c.loop-i.invariant.6)
     returns_2)

@@ -16,10 +16,10 @@ use Rattle.whole_root.proofs.root.Tie as tie
 abbrev Near : ℕ → ℕ → Type 0
 Near n r = (n < (r + 1) * (r + 1)) × (r ≤ 2 ^ 31)
 
-abbrev invariant_loop : tie.invariant_loop
+abbrev invariant_loop : tie.invariant-loop-r
 invariant_loop n r₀ r = Near n r
 
-abbrev decreases_loop : tie.decreases_loop
+abbrev decreases_loop : tie.decreases-loop-r
 decreases_loop n r₀ r = r
 
 -- ---- the first guess
@@ -45,28 +45,28 @@ square_fits : (r : ℕ) → r ≤ 2 ^ 31 → r * r ≤ 2 ^ 62
 square_fits r h = let p : r * r ≤ 2 ^ 31 * 2 ^ 31 = mul-le-mul h h in omega (arith, p)
 
 -- ---- the needs
-loop_holds : tie.Need-loop-init invariant_loop decreases_loop
+loop_holds : tie.Need-loop-r-init invariant_loop decreases_loop
 loop_holds c = first c.args.n c.requires
 
-mul_loop : tie.Need-overflow-mul-loop invariant_loop decreases_loop
-mul_loop c = record { fits = let p = square_fits _ c.loop.invariant.1 in omega arith }
+mul_loop : tie.Need-overflow_mul-r invariant_loop decreases_loop
+mul_loop c = record { fits = let p = square_fits _ c.loop-r.invariant.1 in omega arith }
 
-div_r : tie.Need-nonzero-div-r invariant_loop decreases_loop
-div_r c = square_some _ _ c.loop-test.true
+div_r : tie.Need-nonzero_div-r-in-loop-r invariant_loop decreases_loop
+div_r c = square_some _ _ c.loop-r-test.true
 
-add_r : tie.Need-overflow-add-r invariant_loop decreases_loop
-add_r c = let l = c.before in record { fits = let p = div-le_self l.before.args.n l.loop.r in omega (arith, l.before.requires, l.loop.invariant.1) }
+add_r : tie.Need-overflow_add-r invariant_loop decreases_loop
+add_r c = let l = c in record { fits = let p = div-le_self l.args.n l.loop-r.r in omega (arith, l.requires, l.loop-r.invariant.1) }
 
-loop_less : tie.Need-loop-smaller invariant_loop decreases_loop
-loop_less c = step_below _ _ c.loop-test.true
+loop_less : tie.Need-loop-r-smaller invariant_loop decreases_loop
+loop_less c = step_below _ _ c.loop-r-test.true
 
-loop_again : tie.Need-loop-preserved invariant_loop decreases_loop
+loop_again : tie.Need-loop-r-preserved invariant_loop decreases_loop
 loop_again c =
-    let h = c.loop-test.true in
-    (step_above _ _ (square_some _ _ h), let p = step_below _ _ h in omega (arith, c.before.loop.invariant.1))
+    let h = c.loop-r-test.true in
+    (step_above _ _ (square_some _ _ h), let p = step_below _ _ h in omega (arith, c.loop-r.invariant.1))
 
 returns : tie.Need-returns invariant_loop decreases_loop
-returns c = only_root _ _ (omega (arith, c.loop-test.false)) c.before.loop.invariant.0
+returns c = only_root _ _ (omega (arith, c.loop-r-test.false)) c.loop-r.invariant.0
 
 pub root_spec : {M : Type 1} → statement M
 root_spec =

@@ -22,8 +22,8 @@ three o to kind n e f g =
 returns : tie.Need-returns
 returns c =
     let n = c.before.before in
-    let t = n.before.before.before.before in
-    three _ _ _ _ t.before.before.before.before.put.ensures t.put2.ensures n.put3.ensures
+    let t = n in
+    three _ _ _ _ t.put.ensures t.put-2.ensures n.put-3.ensures
 
 pub put_spec : {M : Type 1} → statement M
 put_spec =

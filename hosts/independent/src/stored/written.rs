@@ -1,5 +1,5 @@
 //! The examples that the crate `sheet_written` proves, crates/sheet_written/specs/Examples.antt: for each list of numbers `NAME : List ℤ` of the
-//! file, the bytes `NAMEBytes : List ℕ` that are written for them.
+//! file, the bytes `NAME_bytes : List ℕ` that are written for them.
 
 use crate::entries::{whole, Entry};
 
@@ -11,7 +11,7 @@ pub fn with_bytes(text: &str) -> String {
     let mut text = text.to_string();
     for (name, numbers) in numbers_of(&text) {
         let written = whole(Entry::Write, &numbers).unwrap_or_else(|_| panic!("{name} is written"));
-        let name = format!("{name}Bytes");
+        let name = format!("{name}_bytes");
         let body = body_of(&text, &name, "ℕ").unwrap_or_else(|| panic!("there is a {name}"));
         text = text.replace(body, &wrapped(written.bytes.iter().map(u8::to_string)));
     }

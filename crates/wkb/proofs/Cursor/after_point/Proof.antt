@@ -5,10 +5,10 @@ use Rattle.wkb.specs.Steps.{after_point}
 use Rattle.wkb.proofs.Cursor.after_point.Statement.{statement}
 use Rattle.wkb.proofs.Cursor.after_point.Tie as tie
 
-add_self : tie.Need-overflow-add-self
+add_self : tie.Need-overflow_add-self
 add_self c = search rules
 
-less_requires : tie.Need-less-requires
+less_requires : tie.Need-less-left-requires
 less_requires c κs = search rules
 
 renewed_requires : tie.Need-renewed-requires
@@ -16,7 +16,7 @@ renewed_requires c κs = search rules
 
 returns : tie.Need-returns
 unfolding after_point
-returns c = c.renewed.ensures ∙ simp c.before.less.ensures
+returns c = c.renewed.ensures ∙ simp c.less-left.ensures
 
 pub after_point_spec : {M : Type 1} → statement M
 after_point_spec = tie.close (tie.spec add_self less_requires renewed_requires returns)

@@ -3,60 +3,60 @@ use borrow.Author.Rules.{rules}
 use borrow.Author.Tests.{lt-ltb, le-ltb, eq-eqb, ne_eqb}
 use mathlib.Core.Path.{◌≡◌, sym, ◌∙◌}
 use mathlib.Core.Bool.{false, not, ◌&&◌}
-use mathlib.Core.Logic.{⊎_elim}
 use lib.Dec.{eqb}
 use Rattle.wkb.specs.declared.Cursor.{Cursor}
 use Rattle.wkb.specs.Steps.{step_at, complete}
 use Rattle.wkb.proofs.Cursor.answer.Statement.{statement}
 use Rattle.wkb.proofs.Cursor.answer.Tie as tie
+use Rattle.wkb.proofs.Cursor.answer.Lts.{else-self-ne0-via-then-self-ne0+else-is_complete, else-self-ne0-via-else-self-ne0}
 
 -- A header is read where the place is the sheet's own, or the member is not complete.
-module _ (d : tie.Joined3) where
+module _ (d : tie.Joined-else-self-ne0) where
   abbrev C : Cursor
-  C = d.before.before.before.before.before.before.before.args.self
+  C = d.args.self
 
   pub header : not (eqb C.member 0) && complete C ≡ false
-  header = ⊎_elim (λ w. simp (ne_eqb _ 0 w.0.taken, sym w.1.ensures ∙ w.2.left)) (λ w. simp (eq-eqb _ 0 w.left)) d.if3.came
+  header = elim d.else-self-ne0.branch [ else-self-ne0-via-then-self-ne0+else-is_complete w ↦ simp (ne_eqb _ 0 w.if-self-ne0.true, sym w.is_complete.ensures ∙ w.if-is_complete.false) | else-self-ne0-via-else-self-ne0 w ↦ simp (eq-eqb _ 0 w.if-self-ne0.false) ]
 
 point_requires : tie.Need-point-requires
 point_requires c κs = search rules
 
-returns : tie.Need-returns
+returns : tie.Need-returns-then-self-gt0
 unfolding step_at
-returns c = c.point.ensures ∙ simp (lt-ltb 0 _ c.before.if1.true)
+returns c = c.point.ensures ∙ simp (lt-ltb 0 _ c.if-self-gt0.true)
 
 ring_requires : tie.Need-ring-requires
 ring_requires c κs = search rules
 
-returns_2 : tie.Need-returns-2
+returns_2 : tie.Need-returns-then-self-gt0-2
 unfolding step_at
-returns_2 c = c.ring.ensures ∙ simp (le-ltb 0 _ c.before.before.before.if1.false, lt-ltb 0 _ c.before.if2.true)
+returns_2 c = c.ring.ensures ∙ simp (le-ltb 0 _ c.if-self-gt0.false, lt-ltb 0 _ c.if-self-gt0-2.true)
 
-is_complete_requires : tie.Need-is-complete-requires
+is_complete_requires : tie.Need-is_complete-requires
 is_complete_requires c κs = search rules
 
 end_requires : tie.Need-end-requires
 end_requires c κs = search rules
 
-returns_3 : tie.Need-returns-3
+returns_3 : tie.Need-returns-then-is_complete
 unfolding step_at
 returns_3 c =
     c.end.ensures
     ∙ simp (
-      le-ltb 0 _ c.before.before.before.before.before.before.before.if1.false,
-      le-ltb 0 _ c.before.before.before.before.before.if2.false,
-      ne_eqb _ 0 c.before.before.before.if3.true,
-      sym c.before.before.is-complete.ensures ∙ c.before.if4.true,
+      le-ltb 0 _ c.if-self-gt0.false,
+      le-ltb 0 _ c.if-self-gt0-2.false,
+      ne_eqb _ 0 c.if-self-ne0.true,
+      sym c.is_complete.ensures ∙ c.if-is_complete.true,
     )
 
 geometry_requires : tie.Need-geometry-requires
 geometry_requires c κs = search rules
 
-returns_4 : tie.Need-returns-4
+returns_4 : tie.Need-returns
 unfolding step_at
 returns_4 c =
     c.geometry.ensures
-    ∙ simp (le-ltb 0 _ c.before.before.before.before.before.if1.false, le-ltb 0 _ c.before.before.before.if2.false, header c.before)
+    ∙ simp (le-ltb 0 _ c.if-self-gt0.false, le-ltb 0 _ c.if-self-gt0-2.false, header c.before)
 
 pub answer_spec : {M : Type 1} → statement M
 answer_spec =

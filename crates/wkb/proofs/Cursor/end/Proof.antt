@@ -6,20 +6,20 @@ use Rattle.wkb.specs.Steps.{end_at}
 use Rattle.wkb.proofs.Cursor.end.Statement.{statement}
 use Rattle.wkb.proofs.Cursor.end.Tie as tie
 
-returns : tie.Need-returns
+returns : tie.Need-returns-then-at-s
 unfolding end_at
-returns c = simp (lt-ltb _ _ c.if1.true)
+returns c = simp (lt-ltb _ _ c.if-at-s.true)
 
-returns_2 : tie.Need-returns-2
+returns_2 : tie.Need-returns-then-at-s-2
 unfolding end_at
-returns_2 c = simp (le-ltb _ _ c.before.if1.false, eq-eqb _ _ c.if2.true)
+returns_2 c = simp (le-ltb _ _ c.if-at-s.false, eq-eqb _ _ c.if-at-s-2.true)
 
 refused_requires : tie.Need-refused-requires
 refused_requires c κs = search rules
 
-returns_3 : tie.Need-returns-3
+returns_3 : tie.Need-returns
 unfolding end_at
-returns_3 c = c.refused.ensures ∙ simp (le-ltb _ _ c.before.before.if1.false, ne_eqb _ _ c.before.if2.false)
+returns_3 c = c.refused.ensures ∙ simp (le-ltb _ _ c.if-at-s.false, ne_eqb _ _ c.if-at-s-2.false)
 
 pub end_spec : {M : Type 1} → statement M
 end_spec = tie.close (tie.spec returns returns_2 refused_requires returns_3)

@@ -7,104 +7,104 @@ use Rattle.wkb.proofs.Steps.{pops}
 use Rattle.wkb.proofs.Cursor.opened.Statement.{statement}
 use Rattle.wkb.proofs.Cursor.opened.Tie as tie
 
-enum_told : tie.Need-enum-told
+enum_told : tie.Need-enum_told-1
 enum_told c = search rules
 
-with_sheet_requires : tie.Need-with-sheet-requires
+with_sheet_requires : tie.Need-with_sheet-requires
 with_sheet_requires c κs = search rules
 
-enum_told_2 : tie.Need-enum-told-2
+enum_told_2 : tie.Need-enum_told-in-Table
 enum_told_2 c = search rules
 
 popped_requires : tie.Need-popped-requires
 popped_requires c κs = search rules
 
-with_parts_requires : tie.Need-with-parts-requires
-with_parts_requires c κs = let a = c.before.before.before in rw (c.popped.ensures, (pops a.args.self).at) a.requires.0
+with_parts_requires : tie.Need-with_parts-requires
+with_parts_requires c κs = let a = c in rw (c.popped.ensures, (pops a.args.self).at) a.requires.0
 
-enum_told_3 : tie.Need-enum-told-3
+enum_told_3 : tie.Need-enum_told-in-Piece
 enum_told_3 c = search rules
 
-fewer_parts_requires : tie.Need-fewer-parts-requires
+fewer_parts_requires : tie.Need-fewer_parts-requires
 fewer_parts_requires c κs = search rules
 
-with_rings_requires : tie.Need-with-rings-requires
+with_rings_requires : tie.Need-with_rings-requires
 unfolding fewer_parts
-with_rings_requires c κs = rw c.fewer-parts.ensures c.before.before.before.requires.0
+with_rings_requires c κs = rw c.fewer_parts.ensures c.requires.0
 
-enum_told_4 : tie.Need-enum-told-4
+enum_told_4 : tie.Need-enum_told-in-Part
 enum_told_4 c = search rules
 
-fewer_parts_requires_2 : tie.Need-fewer-parts-requires-2
+fewer_parts_requires_2 : tie.Need-fewer_parts-requires-in-Part
 fewer_parts_requires_2 c κs = search rules
 
-with_rings_requires_2 : tie.Need-with-rings-requires-2
+with_rings_requires_2 : tie.Need-with_rings-requires-in-Part
 unfolding fewer_parts
-with_rings_requires_2 c κs = rw c.fewer-parts2.ensures c.before.before.before.requires.0
+with_rings_requires_2 c κs = rw c.fewer_parts-in-Part.ensures c.requires.0
 
-enum_told_5 : tie.Need-enum-told-5
+enum_told_5 : tie.Need-enum_told-in-Member
 enum_told_5 c = search rules
 
-popped_requires_2 : tie.Need-popped-requires-2
+popped_requires_2 : tie.Need-popped-requires-then-kind-eq-POLYGON
 popped_requires_2 c κs = search rules
 
-with_rings_requires_3 : tie.Need-with-rings-requires-3
-with_rings_requires_3 c κs = let a = c.before.before.before.before in rw (c.popped2.ensures, (pops a.args.self).at) a.requires.0
+with_rings_requires_3 : tie.Need-with_rings-requires-then-kind-eq-POLYGON
+with_rings_requires_3 c κs = let a = c in rw (c.popped-then-kind-eq-POLYGON.ensures, (pops a.args.self).at) a.requires.0
 
-popped_requires_3 : tie.Need-popped-requires-3
+popped_requires_3 : tie.Need-popped-requires-then-kind-eq-MULTI_POLYGON
 popped_requires_3 c κs = search rules
 
-with_parts_requires_2 : tie.Need-with-parts-requires-2
-with_parts_requires_2 c κs = let a = c.before.before.before.before.before in rw (c.popped3.ensures, (pops a.args.self).at) a.requires.0
+with_parts_requires_2 : tie.Need-with_parts-requires-then-kind-eq-MULTI_POLYGON
+with_parts_requires_2 c κs = let a = c in rw (c.popped-then-kind-eq-MULTI_POLYGON.ensures, (pops a.args.self).at) a.requires.0
 
-popped_requires_4 : tie.Need-popped-requires-4
+popped_requires_4 : tie.Need-popped-requires-else-kind-eq-MULTI_POLYGON
 popped_requires_4 c κs = search rules
 
-with_members_requires : tie.Need-with-members-requires
-with_members_requires c κs = let a = c.before.before.before.before.before in rw (c.popped4.ensures, (pops a.args.self).at) a.requires.0
+with_members_requires : tie.Need-with_members-requires
+with_members_requires c κs = let a = c in rw (c.popped-else-kind-eq-MULTI_POLYGON.ensures, (pops a.args.self).at) a.requires.0
 
-returns : tie.Need-returns
+returns : tie.Need-returns-in-Sheet
 unfolding opened
-returns c = c.with-sheet.ensures ∙ simp c.before.enum_told.given.1
+returns c = c.with_sheet.ensures ∙ simp c.in-Sheet.is
 
-returns_2 : tie.Need-returns-2
+returns_2 : tie.Need-returns-in-Table
 unfolding opened
-returns_2 c = c.with-parts.ensures ∙ simp (c.before.popped.ensures, c.before.before.enum-told2.given.1)
+returns_2 c = c.with_parts.ensures ∙ simp (c.popped.ensures, c.in-Table.is)
 
-returns_3 : tie.Need-returns-3
+returns_3 : tie.Need-returns-in-Piece
 unfolding opened
-returns_3 c = c.with-rings.ensures ∙ simp (c.before.fewer-parts.ensures, c.before.before.enum-told3.given.1)
+returns_3 c = c.with_rings.ensures ∙ simp (c.fewer_parts.ensures, c.in-Piece.is)
 
-returns_4 : tie.Need-returns-4
+returns_4 : tie.Need-returns-in-Part
 unfolding opened
-returns_4 c = c.with-rings2.ensures ∙ simp (c.before.fewer-parts2.ensures, c.before.before.enum-told4.given.1)
+returns_4 c = c.with_rings-in-Part.ensures ∙ simp (c.fewer_parts-in-Part.ensures, c.in-Part.is)
 
-returns_5 : tie.Need-returns-5
+returns_5 : tie.Need-returns-then-kind-eq-POLYGON
 unfolding opened
 returns_5 c =
-    c.with-rings3.ensures
-    ∙ simp (c.before.popped2.ensures, c.before.before.before.enum-told5.given.1, eq-eqb _ 3 c.before.before.if1.true)
+    c.with_rings-then-kind-eq-POLYGON.ensures
+    ∙ simp (c.popped-then-kind-eq-POLYGON.ensures, c.in-Member.is, eq-eqb _ 3 c.if-kind-eq-POLYGON.true)
 
-returns_6 : tie.Need-returns-6
+returns_6 : tie.Need-returns-then-kind-eq-MULTI_POLYGON
 unfolding opened
 returns_6 c =
-    c.with-parts2.ensures
+    c.with_parts-then-kind-eq-MULTI_POLYGON.ensures
     ∙ simp (
-      c.before.popped3.ensures,
-      c.before.before.before.before.enum-told5.given.1,
-      ne_eqb _ 3 c.before.before.before.if1.false,
-      eq-eqb _ 6 c.before.before.if2.true,
+      c.popped-then-kind-eq-MULTI_POLYGON.ensures,
+      c.in-Member.is,
+      ne_eqb _ 3 c.if-kind-eq-POLYGON.false,
+      eq-eqb _ 6 c.if-kind-eq-MULTI_POLYGON.true,
     )
 
-returns_7 : tie.Need-returns-7
+returns_7 : tie.Need-returns-else-kind-eq-MULTI_POLYGON
 unfolding opened
 returns_7 c =
-    c.with-members.ensures
+    c.with_members.ensures
     ∙ simp (
-      c.before.popped4.ensures,
-      c.before.before.before.before.enum-told5.given.1,
-      ne_eqb _ 3 c.before.before.before.if1.false,
-      ne_eqb _ 6 c.before.before.if2.false,
+      c.popped-else-kind-eq-MULTI_POLYGON.ensures,
+      c.in-Member.is,
+      ne_eqb _ 3 c.if-kind-eq-POLYGON.false,
+      ne_eqb _ 6 c.if-kind-eq-MULTI_POLYGON.false,
     )
 
 pub opened_spec : {M : Type 1} → statement M

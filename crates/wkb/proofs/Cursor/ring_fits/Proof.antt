@@ -5,22 +5,22 @@ use Rattle.wkb.proofs.Steps.{ring_total}
 use Rattle.wkb.proofs.Cursor.ring_fits.Statement.{statement}
 use Rattle.wkb.proofs.Cursor.ring_fits.Tie as tie
 
-returns : tie.Need-returns
+returns : tie.Need-returns-then-self-eq1
 unfolding ring_fits
-returns c = simp (eq-eqb _ 1 c.if1.true)
+returns c = simp (eq-eqb _ 1 c.if-self-eq1.true)
 
-returns_2 : tie.Need-returns-2
+returns_2 : tie.Need-returns-then-n-lt4
 unfolding ring_fits
-returns_2 c = simp (ne_eqb _ 1 c.before.if1.false, lt-leb 4 _ c.if2.true)
+returns_2 c = simp (ne_eqb _ 1 c.if-self-eq1.false, lt-leb 4 _ c.if-n-lt4.true)
 
-returns_3 : tie.Need-returns-3
+returns_3 : tie.Need-returns-then-n-gt4096
 unfolding ring_fits
-returns_3 c = simp (ne_eqb _ 1 c.before.before.if1.false, le-leb 4 _ c.before.if2.false, lt-leb _ 4096 c.if3.true)
+returns_3 c = simp (ne_eqb _ 1 c.if-self-eq1.false, le-leb 4 _ c.if-n-lt4.false, lt-leb _ 4096 c.if-n-gt4096.true)
 
-returns_4 : tie.Need-returns-4
+returns_4 : tie.Need-returns
 returns_4 c =
-    let a = c.before.before.before.before.before.args in
-    ring_total a.self a.n c.before.before.before.if1.false c.before.before.if2.false c.before.if3.false
+    let a = c.args in
+    ring_total a.self a.n c.if-self-eq1.false c.if-n-lt4.false c.if-n-gt4096.false
 
 pub ring_fits_spec : {M : Type 1} → statement M
 ring_fits_spec = tie.close (tie.spec returns returns_2 returns_3 returns_4)

@@ -5,7 +5,7 @@ use Rattle.wkb.specs.Steps.{with_parts}
 use Rattle.wkb.proofs.Cursor.with_parts.Statement.{statement}
 use Rattle.wkb.proofs.Cursor.with_parts.Tie as tie
 
-add_self : tie.Need-overflow-add-self
+add_self : tie.Need-overflow_add-self
 add_self c = search rules
 
 returns : tie.Need-returns

@@ -6,23 +6,23 @@ use Rattle.wkb.specs.Steps.{with_rings}
 use Rattle.wkb.proofs.Cursor.with_rings.Statement.{statement}
 use Rattle.wkb.proofs.Cursor.with_rings.Tie as tie
 
-add_self : tie.Need-overflow-add-self
+add_self : tie.Need-overflow_add-self
 add_self c = search rules
 
-add_more : tie.Need-overflow-add-more
-add_more c = let h = c.before.if2.true in omega arith
+add_more : tie.Need-overflow_add-more
+add_more c = let h = c.if-self-lt64.true in omega arith
 
-returns : tie.Need-returns
+returns : tie.Need-returns-then-self-lt64
 unfolding with_rings
-returns c = simp (c.before.before.before.if1.true, lt-ltb _ 64 c.before.if2.true)
+returns c = simp (c.if-counted.true, lt-ltb _ 64 c.if-self-lt64.true)
 
-returns_2 : tie.Need-returns-2
+returns_2 : tie.Need-returns-else-self-lt64
 unfolding with_rings
-returns_2 c = simp (c.before.before.if1.true, le-ltb _ 64 c.if2.false)
+returns_2 c = simp (c.if-counted.true, le-ltb _ 64 c.if-self-lt64.false)
 
-returns_3 : tie.Need-returns-3
+returns_3 : tie.Need-returns-else-counted
 unfolding with_rings
-returns_3 c = simp c.if1.false
+returns_3 c = simp c.if-counted.false
 
 pub with_rings_spec : {M : Type 1} → statement M
 with_rings_spec = tie.close (tie.spec add_self add_more returns returns_2 returns_3)

@@ -5,10 +5,10 @@ use Rattle.wkb.specs.Steps.{with_sheet}
 use Rattle.wkb.proofs.Cursor.with_sheet.Statement.{statement}
 use Rattle.wkb.proofs.Cursor.with_sheet.Tie as tie
 
-add_self : tie.Need-overflow-add-self
+add_self : tie.Need-overflow_add-self
 add_self c = search rules
 
-sub_self : tie.Need-overflow-sub-self
+sub_self : tie.Need-overflow_sub-self
 sub_self c = search rules
 
 returns : tie.Need-returns
