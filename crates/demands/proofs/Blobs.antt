@@ -1,7 +1,7 @@
 -- Request No. 1: GeoPackage geometry. Demand 2 for blobs: they are read and written as OGC 12-128 lays down its binary form, around sheets as demand 2 has them; a
 -- written blob is read back with its number and sheet and is never refused 52; equal numbers and sheets are written as equal bytes. Demands 1 and 3 hold in every
 -- mode, by the same proofs. Assumes nothing.
-use mathlib.Core.Path.{◌≡◌, refl, sym, ◌∙◌, ap, subst}
+use mathlib.Core.Path.{◌≡◌, refl, sym, ◌∙◌, ap, ap₂, subst}
 use mathlib.Core.Logic.{◌↔◌, ◌⊎◌, inl, inr, ⊎_elim}
 use mathlib.Core.Bool.{false≢true}
 use mathlib.Core.List.{List, ◌++◌}
@@ -14,6 +14,8 @@ use lib.IntN.{ℤ, pos}
 use lib.ListN.{length, drop}
 use Rattle.whole.specs.Sums.{All}
 use Rattle.whole.proofs.Sums.{all-++, all_drop}
+use Rattle.lent.specs.declared.Fault.{Fault as Told}
+use Rattle.lent.specs.Refusals.{code_of}
 use Rattle.lent.specs.Stages.{Answer, value, refused, and_then}
 use Rattle.lent.specs.Answered.{bytes}
 use Rattle.lent.proofs.Stages.{value_refused, same_refusal}
@@ -26,13 +28,12 @@ use Rattle.sheet_envelope.specs.Envelope.{Same, agrees}
 use Rattle.sheet_envelope.proofs.Same.{nan_equals_nothing, minus_zero_equals}
 use Rattle.sheet_framed.specs.Framed.{frame_on}
 use Rattle.sheet_blob.specs.declared.Opened.{Opened}
-use Rattle.sheet_blob.specs.declared.Opening.{Opening}
-use Rattle.sheet_blob.specs.declared.Opening.TheVariants.{Read, Refused as HeaderRefused}
+use Rattle.std.specs.Prelude.{Ok, Err}
 use Rattle.sheet_blob.specs.Blob.{blob_of}
-use Rattle.sheet_blob.specs.Opening.{opening_of}
+use Rattle.sheet_blob.specs.Opening.{Opening, opening_of}
 use Rattle.sheet_blob.specs.Faults.{Fault}
 use Rattle.sheet_blob.proofs.Grammar.{BlobRead, read_exactly, sheet_behind}
-use Rattle.sheet_blob.proofs.Refusals.{refused_exactly}
+use Rattle.sheet_blob.proofs.Refusals.{refused_exactly, refused_as_fault}
 use Rattle.sheet_standard.specs.Limits.{sheet_of}
 use Rattle.sheet_written.specs.Fits.{sheet_fits}
 use Rattle.sheet_written.proofs.Given.{form_bytes}
@@ -68,20 +69,22 @@ module _ (mode : ℕ) (edition : Edition) (reads : ReadsBlobs mode edition) (s :
   headed_by : header_by mode s ≡ found (headed (opening_of s))
   headed_by = ap (λ a. found (and_then a (λ m. around m.form s))) reads
 
-  header_read : (r : Opened) → (header_by mode s ≡ some r) ↔ (opening_of s ≡ Read r)
+  header_read : (r : Opened) → (header_by mode s ≡ some r) ↔ (opening_of s ≡ Ok r)
   header_read r = (λ e. to (opening_of s) (sym headed_by ∙ e), λ e. headed_by ∙ ap (λ o. found (headed o)) e)
     where
-      to : (o : Opening) → found (headed o) ≡ some r → o ≡ Read r
-      to (Read t) e = let q : t ≡ r = cc e in ap Read q
-      to (HeaderRefused c p) e = absurd (none-ne-some r e)
+      to : (o : Opening) → found (headed o) ≡ some r → o ≡ Ok r
+      to (Ok t) e = let q : t ≡ r = cc e in ap Ok q
+      to (Err f) e = absurd (none-ne-some r e)
 
   -- Where a sheet is read there is one.
   header_there : (n : Sheet) → read_by members mode s ≡ value n → (r : Opened) × (header_by mode s ≡ some r)
   header_there n e = go (opening_of s) refl
     where
       go : (o : Opening) → opening_of s ≡ o → (r : Opened) × (header_by mode s ≡ some r)
-      go (Read r) o = (r, (header_read r).1 o)
-      go (HeaderRefused c p) o = absurd (value_refused n c 0 (sym e ∙ (by_refused members s mode c 0).1 (inr (known, reads, inl (ap headed o)))))
+      go (Ok r) o = (r, (header_read r).1 o)
+      go (Err f) o =
+          let c = code_of f.refusal.reason in
+          absurd (value_refused n c 0 (sym e ∙ (by_refused members s mode c 0).1 (inr (known, reads, inl (ap headed o)))))
 
   -- ---- reading
   -- Bytes are read as a blob with this header, its number and its envelope or none, and with this sheet exactly if they are such a blob within the limits.
@@ -116,20 +119,24 @@ module _ (mode : ℕ) (edition : Edition) (reads : ReadsBlobs mode edition) (s :
 
   -- They are refused exactly if a field of the header is at fault, with its code and item 0, or else the sheet behind it is refused, with its code and item.
   pub refuses_blobs : (code item : ℕ)
-      → (read_by members mode s ≡ refused code item) ↔ (((item ≡ 0) × (position : ℕ) × Fault s code position) ⊎ ((r : Opened) × (opening_of s ≡ Read r) × (read_sheet members (drop r.at s) ≡ refused code item)))
+      → (read_by members mode s ≡ refused code item) ↔ (((item ≡ 0) × (position : ℕ) × Fault s code position) ⊎ ((r : Opened) × (opening_of s ≡ Ok r) × (read_sheet members (drop r.at s) ≡ refused code item)))
   refuses_blobs code item = (to (opening_of s) refl, from)
     where
       to : (o : Opening) → opening_of s ≡ o → read_by members mode s ≡ refused code item
-          → ((item ≡ 0) × (position : ℕ) × Fault s code position) ⊎ ((r : Opened) × (opening_of s ≡ Read r) × (read_sheet members (drop r.at s) ≡ refused code item))
-      to (Read r) o e = inr (r, o, (in_mode_refused members s mode known (some r) reads (ap headed o) code item).0 e)
-      to (HeaderRefused c p) o e =
+          → ((item ≡ 0) × (position : ℕ) × Fault s code position) ⊎ ((r : Opened) × (opening_of s ≡ Ok r) × (read_sheet members (drop r.at s) ≡ refused code item))
+      to (Ok r) o e = inr (r, o, (in_mode_refused members s mode known (some r) reads (ap headed o) code item).0 e)
+      to (Err f) o e =
+          let c = code_of f.refusal.reason in
           let q = (by_refused members s mode c 0).1 (inr (known, reads, inl (ap headed o))) in
           let z : ◌≡◌ {A = Answer Sheet} (refused c 0) (refused code item) = sym q ∙ e in
           let (a, i) = (same_refusal {A = Sheet} c 0 code item).0 z in
-          inl (i, p, (refused_exactly s code p).0 (rw a o))
+          let w = refused_as_fault s f o in
+          inl (i, f.position, (refused_exactly s code f.position).0 (f.refusal.reason, sym a, o ∙ ap Err w))
 
-      from : ((item ≡ 0) × (position : ℕ) × Fault s code position) ⊎ ((r : Opened) × (opening_of s ≡ Read r) × (read_sheet members (drop r.at s) ≡ refused code item)) → read_by members mode s ≡ refused code item
-      from (inl (i, p, f)) = (by_refused members s mode code item).1 (inr (known, reads, inl (ap headed ((refused_exactly s code p).1 f) ∙ ap (refused code) (sym i))))
+      from : ((item ≡ 0) × (position : ℕ) × Fault s code position) ⊎ ((r : Opened) × (opening_of s ≡ Ok r) × (read_sheet members (drop r.at s) ≡ refused code item)) → read_by members mode s ≡ refused code item
+      from (inl (i, p, f)) =
+          let (reason, w, o) = (refused_exactly s code p).1 f in
+          (by_refused members s mode code item).1 (inr (known, reads, inl (ap headed o ∙ ap₂ refused w (sym i))))
       from (inr (r, o, e)) = (in_mode_refused members s mode known (some r) reads (ap headed o) code item).1 e
 
 -- ---- 52

@@ -12,6 +12,7 @@ use lib.Dec.{eqb}
 use lib.IntN.{pos}
 use lib.ListN.{length, get_or}
 use lib.Signed.{◌<ℤ◌}
+use Rattle.std.specs.Prelude.{Result, Ok}
 use Rattle.whole.specs.Sums.{Among}
 use Rattle.plane.specs.Points.{Triangle}
 use Rattle.plane.specs.Members.{Member, double_area}
@@ -23,8 +24,7 @@ use Rattle.owners_marks.specs.Marks.{owners_from}
 use Rattle.owners.specs.Judging.{Carries, Groundless, carried as carried_by, not_carried, no_ground, code, judge, AreaOfOwnership}
 use Rattle.owners.specs.Owners.{judge_from}
 use Rattle.owners.proofs.Carried.{answered, answers, not_carried_lem, no_ground_lem as by_boundary, not_empty, area_above}
-use Rattle.owners_judge.specs.declared.Judging.{Judging}
-use Rattle.owners_judge.specs.declared.Judging.TheVariants.{Carried as Yes}
+use Rattle.owners_judge.specs.declared.Unowned.{Unowned}
 use Rattle.owners_judge.specs.Judged.{judged_of}
 use Rattle.owners_judge.proofs.Judged.{judging_says as code_says}
 use Rattle.sheet_form.specs.Numbers.{Sheet, members}
@@ -72,8 +72,8 @@ has_ground table area once m s o = (not_empty table m area once s o, area_above 
 
 -- So for the code that judges a polygon, which answers 20, 21 or its labels: 20 exactly if no set has the polygon's boundary, 21 exactly if that is zero
 -- everywhere, and else the labels are its set.
-pub judging_says : (table : List Triangle) → RuleA table → RuleB table → (m : Member) (r : Judging) (labels : List Bool) → judged_of r labels ≡ judge table m
-    → ((code (judged_of r labels) ≡ 20) ↔ NoSet table m) × ((code (judged_of r labels) ≡ 21) ↔ Groundless table m) × (r ≡ Yes → AreaOfOwnership table m labels)
+pub judging_says : (table : List Triangle) → RuleA table → RuleB table → (m : Member) (r : Result (Unit {0}) Unowned) (labels : List Bool) → judged_of r labels ≡ judge table m
+    → ((code (judged_of r labels) ≡ 20) ↔ NoSet table m) × ((code (judged_of r labels) ≡ 21) ↔ Groundless table m) × (r ≡ Ok tt → AreaOfOwnership table m labels)
 judging_says table area once m = code_says table m area once
 
 -- ---- whole sheets

@@ -6,10 +6,9 @@ use mathlib.Core.List.{List}
 use mathlib.Core.Option.{Option, none, some, none-ne-some}
 use Prim.Native.Nat.{ℕ, zero, suc, ◌<◌}
 use native.Mathlib.Omega.{arith}
+use Rattle.std.specs.Prelude.{Option as Maybe, None, Some}
 use Rattle.sheet_form.specs.Numbers.{Sheet}
 use Rattle.sheet_envelope.specs.declared.Envelope.{Envelope}
-use Rattle.sheet_envelope.specs.declared.Optional.{Optional}
-use Rattle.sheet_envelope.specs.declared.Optional.TheVariants.{Absent, Present}
 use Rattle.sheet_envelope.specs.Envelope.{Same, same_frame, agrees}
 use Rattle.sheet_envelope.proofs.Same.{same_is}
 use Rattle.sheet_framed.specs.Framed.{frame_on}
@@ -26,11 +25,11 @@ module _ (mode : ℕ) (s : List ℕ) (n : Sheet) where
       go false q = refl
 
   pub framed_no : (framed (header_by mode s) n ≡ false) ↔ OtherEnvelope mode s n
-  framed_no = (to (header_by mode s) refl, λ w. ap (λ o. framed o n) w.around ∙ ap (λ v. agrees v (frame_on n)) w.there ∙ differing w.envelope w.differs)
+  framed_no = (to (header_by mode s) refl, λ w. ap (λ o. framed o n) w.around ∙ ap (λ (v : Maybe Envelope). agrees v (frame_on n)) w.there ∙ differing w.envelope w.differs)
     where
-      other : (r : Opened) → header_by mode s ≡ some r → (v : Optional) → r.envelope ≡ v → agrees v (frame_on n) ≡ false → OtherEnvelope mode s n
-      other r q Absent w e = absurd (false≢true (sym e))
-      other r q (Present v) w e = record { header = r; around = q; envelope = v; there = w; differs = λ h. false≢true (sym e ∙ (same_is v (frame_on n)).1 h) }
+      other : (r : Opened) → header_by mode s ≡ some r → (v : Maybe Envelope) → r.envelope ≡ v → agrees v (frame_on n) ≡ false → OtherEnvelope mode s n
+      other r q None w e = absurd (false≢true (sym e))
+      other r q (Some v) w e = record { header = r; around = q; envelope = v; there = w; differs = λ h. false≢true (sym e ∙ (same_is v (frame_on n)).1 h) }
 
       to : (o : Option Opened) → header_by mode s ≡ o → framed o n ≡ false → OtherEnvelope mode s n
       to none q e = absurd (false≢true (sym e))

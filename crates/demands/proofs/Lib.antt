@@ -3,6 +3,7 @@ pub mod Total
 pub mod Reading
 pub mod Writing
 pub mod Answers
+pub mod Single
 pub mod Neighbours
 pub mod Index
 pub mod Positions

@@ -16,6 +16,8 @@ use Rattle.wkb.specs.declared.Cursor.{Cursor}
 use Rattle.wkb.specs.declared.Step.TheVariants.{Refused as StepRefused}
 use Rattle.wkb.specs.Steps.{told_at}
 use Rattle.wkb.specs.Faults.{Fault as StepFault, item_at}
+use Rattle.lent.specs.declared.Reason.{Reason}
+use Rattle.lent.specs.Refusals.{code_of}
 use Rattle.lent.specs.Stages.{value, refused}
 use Rattle.lent.proofs.Stages.{value_refused, same_refusal}
 use Rattle.lent.specs.Answered.{Written, Outcome, answer_of}
@@ -29,9 +31,8 @@ use Rattle.sheet_positions.proofs.Exactly.{refused_exactly, within_bytes}
 use Rattle.sheet_positions.proofs.Front.{front_read}
 use Rattle.sheet_written.proofs.Held.{read_refused, read_held}
 use Rattle.sheet_blob.specs.declared.Opened.{Opened}
-use Rattle.sheet_blob.specs.declared.Opening.{Opening}
-use Rattle.sheet_blob.specs.declared.Opening.TheVariants.{Read, Refused as HeaderRefused}
-use Rattle.sheet_blob.specs.Opening.{opening_of}
+use Rattle.std.specs.Prelude.{Ok, Err}
+use Rattle.sheet_blob.specs.Opening.{Opening, fault, opening_of}
 use Rattle.sheet_blob.specs.Faults.{Fault}
 use Rattle.sheet_blob.proofs.Refusals.{begins_within, refused_exactly as header_refused}
 use Rattle.sheet_modes.specs.Modes.{Form, plain, blob, Mode, mode_of, headed, around, behind, begins, header_by, read_by, position_in}
@@ -61,7 +62,7 @@ next_place s c = Run.step_moved s c
 
 -- and it is refused exactly if a field is at fault there: with the fault's code and the byte that the field begins at, the code's item, and the same place.
 pub step_refused : (s : List ℕ) (c : Cursor) (code item field : ℕ) (d : Cursor)
-    → ((told_at s c).step ≡ StepRefused code item field d) ↔ (StepFault s c code field × (item ≡ item_at code c) × (d ≡ c))
+    → ((reason : Reason) × (code_of reason ≡ code) × ((told_at s c).step ≡ StepRefused reason item field d)) ↔ (StepFault s c code field × (item ≡ item_at code c) × (d ≡ c))
 step_refused = steps.refused_exactly
 
 -- ---- the bytes of a sheet
@@ -113,8 +114,8 @@ in_the_blob s form o is code item at f = go form o is (within_bytes members (beh
     go blob none e h = absurd (no_header (opening_of s) e)
       where
         no_header : (t : Opening) → headed t ≡ value none → ⊥
-        no_header (Read r) e = none-ne-some r (sym (cc e))
-        no_header (HeaderRefused c p) e = value_refused _ c 0 (sym e)
+        no_header (Ok r) e = none-ne-some r (sym (cc e))
+        no_header (Err f) e = value_refused _ (code_of f.refusal.reason) 0 (sym e)
     go blob (some r) e h = omega (arith, length-drop r.at s, (begins_within s r (read_opened s r e)).1)
 
 -- ---- "The packed answer stays; the position, 0 for any other answer, comes from a second entry that agrees with it on code and item for every input."
@@ -133,9 +134,10 @@ module _ (s : List ℕ) (all : All (λ b. b < 256) s) (mode : ℕ) where
     -- of a blob's header at fault: 1 with the position of its field, 50 and 51 with 0;
     pub tells_header : m.form ≡ blob → (code at : ℕ) → Fault s code at → sheet_position mode s ≡ telling code at
     tells_header f code at h =
-        let (r, p) = position_of_header mode s m known f code at ((header_refused s code at).1 h) in
+        let (reason, w, o) = (header_refused s code at).1 h in
+        let (r, p) = position_of_header mode s m known f (fault reason at) o in
         let z : 0 * 256 + code ≡ code = omega arith in
-        position_refused mode s code 0 at ((by_refused members s mode code 0).1 (inr (m, known, inl r))) (sym p) ∙ ap (λ c. telling c at) z
+        position_refused mode s code 0 at ((by_refused members s mode code 0).1 (inr (m, known, inl (r ∙ ap (λ c. refused c 0) w)))) (sym p) ∙ ap (λ c. telling c at) z
 
   -- of a sheet that is read, with no envelope around it that is another than the frame;
   pub tells_read : (n : Sheet) → read_by members mode s ≡ value n → (OtherEnvelope mode s n → ⊥) → sheet_position mode s ≡ telling (length (first_of (header_by mode s) ++ form_of n) * 256) 0

@@ -11,8 +11,10 @@ use lib.ListN.{length}
 use Rattle.whole.specs.Numbers.{Within}
 use Rattle.whole.specs.Sums.{All}
 use Rattle.sheet_coordinate.specs.Coordinate.{Equals, held_of, coordinate_of}
-use Rattle.sheet_coordinate.specs.declared.Coordinate.TheVariants.{Whole}
+use Rattle.std.specs.Prelude.{Some}
 use Rattle.sheet_coordinate.proofs.Meaning
+use Rattle.lent.specs.declared.Reason.{Reason}
+use Rattle.lent.specs.declared.Reason.TheVariants.{Short}
 use Rattle.wkb.specs.declared.Cursor.{Cursor}
 use Rattle.wkb.specs.declared.Step.TheVariants.{End, Refused}
 use Rattle.wkb.specs.Standard.{Geometry, encode}
@@ -50,13 +52,13 @@ longest s bytes n e = let (g, fits, is, unfolds) = (reads_the_standard s bytes n
 pub end_again : (s : List ℕ) (c d : Cursor) → step_at s c ≡ End d → step_at s d ≡ End d
 end_again = Again.end_again
 
-pub refused_again : (s : List ℕ) (c d : Cursor) (code item field : ℕ) → step_at s c ≡ Refused code item field d → step_at s d ≡ Refused code item field d
+pub refused_again : (s : List ℕ) (c d : Cursor) (reason : Reason) (item field : ℕ) → step_at s c ≡ Refused reason item field d → step_at s d ≡ Refused reason item field d
 refused_again = Again.refused_again
 
 -- "a place past the bytes answers 1, with the member that the place names."
-pub past : (s : List ℕ) (c : Cursor) → length s < c.at → step_at s c ≡ Refused 1 c.member c.at c
+pub past : (s : List ℕ) (c : Cursor) → length s < c.at → step_at s c ≡ Refused Short c.member c.at c
 past = Again.past
 
 -- "A double is a coordinate if it is a whole number from -10,000,000 to 10,000,000 (millimetres) .. The whole number then equals the double exactly."
-pub coordinate_is : (x : Float) (n : ℤ) → Within 10_000_000 n → (coordinate_of x ≡ Whole (held_of n)) ↔ Equals x n
+pub coordinate_is : (x : Float) (n : ℤ) → Within 10_000_000 n → (coordinate_of x ≡ Some (held_of n)) ↔ Equals x n
 coordinate_is = Meaning.coordinate_is

@@ -12,6 +12,8 @@ use borrow.Author.Tests.{eqb-false, ne_eqb, lt-leb}
 use lib.Dec.{eqb}
 use Rattle.whole.specs.Sums.{All}
 use Rattle.plane.specs.Corners.{millimetres}
+use Rattle.lent.specs.declared.Fault.{Fault}
+use Rattle.lent.specs.Refusals.{code_of}
 use Rattle.lent.specs.Stages.{value, refused}
 use Rattle.lent.proofs.Stages.{value_refused, same_refusal}
 use Rattle.sheet_form.specs.Numbers.{Sheet, members}
@@ -24,10 +26,9 @@ use Rattle.sheet_written.specs.Normal.{written}
 use Rattle.sheet_written.proofs.Held.{reads_held}
 use Rattle.sheet_written.proofs.Trip.{written_bytes, round_trip}
 use Rattle.sheet_blob.specs.declared.Opened.{Opened}
-use Rattle.sheet_blob.specs.declared.Opening.{Opening}
-use Rattle.sheet_blob.specs.declared.Opening.TheVariants.{Read, Refused}
-use Rattle.sheet_blob.specs.Opening.{opening_of}
-use Rattle.sheet_blob.proofs.Refusals.{refused_known}
+use Rattle.std.specs.Prelude.{Ok, Err}
+use Rattle.sheet_blob.specs.Opening.{Opening, opening_of}
+use Rattle.sheet_blob.proofs.Refusals.{RefusedAs, refused_known, refused_as_fault}
 use Rattle.sheet_modes.specs.Modes.{Form, plain, blob, headed, around, behind, read_by}
 use Rattle.sheet_modes.proofs.Modes.{by_refused, by_fits, mode_refused}
 use Rattle.demands.specs.Positions.{OfReading, low, of_header, of_mode}
@@ -52,21 +53,24 @@ pub no_higher : (code item : ℕ) → 9 ≤ code → Lawful members code item �
 no_higher code item h = rw (ne_eqb code 0 (λ e. omega arith), ne_eqb code 7 (λ e. omega arith), lt-leb code 8 h) (λ t. t)
 
 -- What stands around a sheet is refused where a header is, with item 0: 1, 50 or 51.
-pub around_refused : (form : Form) (s : List ℕ) (code item : ℕ) → around form s ≡ refused code item → (position : ℕ) × (form ≡ blob) × (opening_of s ≡ Refused code position) × (item ≡ 0)
+pub around_refused : (form : Form) (s : List ℕ) (code item : ℕ) → around form s ≡ refused code item → (position : ℕ) × (form ≡ blob) × RefusedAs s code position × (item ≡ 0)
 around_refused plain s code item e = absurd (value_refused _ code item e)
 around_refused blob s code item e = go (opening_of s) refl e
   where
-    go : (o : Opening) → opening_of s ≡ o → headed o ≡ refused code item → (position : ℕ) × (◌≡◌ {A = Form} blob blob) × (opening_of s ≡ Refused code position) × (item ≡ 0)
-    go (Read r) q e = absurd (value_refused _ code item e)
-    go (Refused c p) q e = let (a, b) = (same_refusal c 0 code item).0 e in (p, refl, rw a q, b)
+    go : (o : Opening) → opening_of s ≡ o → headed o ≡ refused code item → (position : ℕ) × (◌≡◌ {A = Form} blob blob) × RefusedAs s code position × (item ≡ 0)
+    go (Ok r) q e = absurd (value_refused _ code item e)
+    go (Err f) q e =
+        let (a, b) = (same_refusal (code_of f.refusal.reason) 0 code item).0 e in
+        let w = refused_as_fault s f q in
+        (f.position, refl, (f.refusal.reason, sym a, q ∙ ap Err w), b)
 
 -- A header stands around a sheet exactly if it is read.
-pub read_opened : (s : List ℕ) (r : Opened) → around blob s ≡ value (some r) → opening_of s ≡ Read r
+pub read_opened : (s : List ℕ) (r : Opened) → around blob s ≡ value (some r) → opening_of s ≡ Ok r
 read_opened s r e = go (opening_of s) e
   where
-    go : (o : Opening) → headed o ≡ value (some r) → o ≡ Read r
-    go (Read t) e = let q : t ≡ r = cc e in ap Read q
-    go (Refused c p) e = absurd (value_refused _ c 0 (sym e))
+    go : (o : Opening) → headed o ≡ value (some r) → o ≡ Ok r
+    go (Ok t) e = let q : t ≡ r = cc e in ap Ok q
+    go (Err f) e = absurd (value_refused _ (code_of f.refusal.reason) 0 (sym e))
 
 -- In a mode: 57 with item 0 where the mode is unknown; of a header 50 or 51 with item 0; else a code for reading.
 pub read_lawful : (mode : ℕ) (s : List ℕ) (code item : ℕ) → read_by members mode s ≡ refused code item
@@ -77,7 +81,7 @@ read_lawful mode s code item e = elim ((by_refused members s mode code item).0 e
   | inr (m, p, inr (o, q, r)) ↦ inr (inr (lawful (behind o s) code item r))
 ]
   where
-    header : (position : ℕ) → opening_of s ≡ Refused code position → item ≡ 0
+    header : (position : ℕ) → RefusedAs s code position → item ≡ 0
         → ((code ≡ 57) × (item ≡ 0)) ⊎ ((((code ≡ 50) ⊎ (code ≡ 51)) × (item ≡ 0)) ⊎ ((code ≡ 0 → ⊥) × Lawful members code item))
     header position o i = elim (refused_known s code position o) [
       | inl (c, l) ↦ inr (inr ((λ z. omega arith), subst (Lawful members code) (sym i) (subst (λ c. Lawful members c 0) (sym c) tt)))

@@ -1,5 +1,5 @@
 -- What the entries go by: the owners that a sheet's triangles have, as lists and as bits, and the refusals that stand before them.
-use Rattle.std.specs.Prelude.{◌≡◌, ◌⊎◌, Bool, List, [], ℕ, ◌-◌, ◌^◌, ◌≤◌, ◌<◌, length, get_or}
+use Rattle.std.specs.Prelude.{◌≡◌, ◌⊎◌, Bool, Some, List, [], ℕ, ◌-◌, ◌^◌, ◌≤◌, ◌<◌, length, get_or}
 use Rattle.std.proofs.Math.Option.{some}
 use Rattle.whole.specs.Sums.{All}
 use Rattle.plane.specs.Boundaries.{sides_of}
@@ -12,7 +12,6 @@ use Rattle.owners.specs.Judging.{Groundless, AreaOfOwnership}
 use Rattle.repair.specs.OneOwner.{OneOwner, ChosenThere}
 use Rattle.sheet_form.specs.Numbers.{Sheet, members}
 use Rattle.sheet_envelope.specs.declared.Envelope.{Envelope}
-use Rattle.sheet_envelope.specs.declared.Optional.TheVariants.{Present}
 use Rattle.sheet_envelope.specs.Envelope.{Same}
 use Rattle.sheet_framed.specs.Framed.{frame_on}
 use Rattle.sheet_blob.specs.declared.Opened.{Opened}
@@ -25,7 +24,7 @@ pub record OtherEnvelope (mode : ℕ) (s : List ℕ) (n : Sheet) : Type 0 where
   pub header : Opened
   pub around : header_by mode s ≡ some header
   pub envelope : Envelope
-  pub there : header.envelope ≡ Present envelope
+  pub there : header.envelope ≡ Some envelope
   pub differs : Same envelope (frame_on n) → ⊥
 
 -- The bytes are read in the mode as the sheet n, its table passes the rules, no envelope around it is another than the frame, each polygon is carried by its set,

@@ -14,7 +14,7 @@ NextAfter s c (Geometry kind n d) = (d.at ≡ (told_at s c).began + 9) × (d.at 
 NextAfter s c (Ring n d) = (d.at ≡ (told_at s c).began + 4) × (d.at ≤ length s)
 NextAfter s c (Point x y d) = (d.at ≡ (told_at s c).began + 16) × (d.at ≤ length s)
 NextAfter s c (End d) = Unit {0}
-NextAfter s c (Refused code item field d) = Unit {0}
+NextAfter s c (Refused reason item field d) = Unit {0}
 
 -- As many bytes are lent as the answer has.
 abbrev pub Enough : Outcome → List ℕ → Type 0

@@ -5,25 +5,19 @@
 
 ghost use Rattle.std.specs.Prelude.{◌≡◌, ◌+◌, ◌≤◌, ◌<◌, length};
 
+use input::read_full;
 use std::io;
 use std::io::{Print, Read};
-
-// A byte as a number.
-fn wide(b: u8) -> usize
-    ensures { result < 256 }
-{
-    b as usize
-}
 
 // The little-endian u32 at a place of a frame.
 fn number(frame: &[u8], at: usize) -> usize
     requires { at + 4 ≤ length frame.now }
     ensures { result < 4294967296 }
 {
-    wide(frame[at])
-        + 256 * wide(frame[at + 1])
-        + 65_536 * wide(frame[at + 2])
-        + 16_777_216 * wide(frame[at + 3])
+    usize::from(frame[at])
+        + 256 * usize::from(frame[at + 1])
+        + 65_536 * usize::from(frame[at + 2])
+        + 16_777_216 * usize::from(frame[at + 3])
 }
 
 // The checksum of all the bytes, so that a change at any place shows.
@@ -31,10 +25,8 @@ fn checksum(bytes: &[u8]) -> u64
     ensures { result < 1000000007 }
 {
     let mut h: u64 = 0;
-    let mut i: usize = 0;
-    while i < bytes.len() {
-        h = (h * 31 + wide(bytes[i]) as u64) % 1_000_000_007;
-        i += 1;
+    for b in bytes {
+        h = (h * 31 + *b as u64) % 1_000_000_007;
     }
     h
 }
@@ -68,16 +60,6 @@ fn areas(input: &[u8], lent: &mut [u8]) -> u64 {
     sheets::sheet_areas(&input[4..], number(input, 0) as u32, lent)
 }
 
-// The number of 32 bits with a sign that a u32 stands for.
-fn signed(n: usize) -> i32
-    requires { n < 4294967296 }
-{
-    if n < 2_147_483_648 {
-        return n as i32;
-    }
-    (n as i64 - 4_294_967_296) as i32
-}
-
 // What is at a point; the mode, the way, and the point's x and y stand before the sheet, each as 4 little-endian bytes.
 fn at(input: &[u8]) -> u64 {
     if input.len() < 16 {
@@ -87,8 +69,8 @@ fn at(input: &[u8]) -> u64 {
         &input[16..],
         number(input, 0) as u32,
         number(input, 4) as u32,
-        signed(number(input, 8)),
-        signed(number(input, 12)),
+        (number(input, 8) as u32).cast_signed(),
+        (number(input, 12) as u32).cast_signed(),
     )
 }
 
@@ -198,7 +180,7 @@ fn room_to_lend() -> [u8; 160000]
 fn capped(room: usize) -> usize
     ensures { result ≤ 160000 }
 {
-    if room < 160_000 { room } else { 160_000 }
+    room.min(160_000)
 }
 
 // The call of a frame whose input was read: so many lent bytes, each 170 before.
@@ -207,19 +189,6 @@ fn lend(rt: &impl Print, entry: u8, input: &[u8], room: usize) -> io::Result<()>
 {
     let mut lent = room_to_lend();
     call(rt, entry, input, &mut lent[..room])
-}
-
-// Reads until the bytes are full or the input ends, and answers how many there are.
-fn read_full<R: Read>(input: &mut R, bytes: &mut [u8]) -> io::Result<usize> {
-    let mut n: usize = 0;
-    while n < bytes.len() {
-        let more = input.read(&mut bytes[n..])?;
-        if more == 0 {
-            return Ok(n);
-        }
-        n += more;
-    }
-    Ok(n)
 }
 
 // Reads a frame's input and makes its call; false where the input is cut short.

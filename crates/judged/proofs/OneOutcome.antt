@@ -8,16 +8,18 @@ use Prim.Native.Nat.{ℕ, zero, suc, ◌*◌}
 use lib.ListN.{length, take, length-map}
 use Rattle.plane.specs.Corners.{millimetres}
 use Rattle.plane.specs.Boundaries.{sides_of}
-use Rattle.lent.specs.Stages.{value, refused}
+use Rattle.std.specs.Prelude.{Result, Ok, Err}
+use Rattle.lent.specs.declared.Refusal.{Refusal}
+use Rattle.lent.specs.Refusals.{code_of}
+use Rattle.lent.specs.Stages.{value}
+use Rattle.lent.proofs.Refusals.{equal_refusals}
 use Rattle.lent.proofs.Stages.{value_refused, same_refusal}
 use Rattle.table.specs.Opposites.{opposites}
 use Rattle.owners_marks.specs.Marks.{set_of}
 use Rattle.sheet_form.specs.Numbers.{numbers_of}
-use Rattle.judged_sets.specs.declared.Owning.{Owning}
-use Rattle.judged_sets.specs.declared.Owning.TheVariants.{Sets, Refused}
 use Rattle.judged.specs.Judged.{Judged, judged_with}
 use Rattle.sheet_older.proofs.Sheets.{same_held}
-use Rattle.judged.specs.Held.{JudgedHeld, JudgedAs}
+use Rattle.judged.specs.Held.{JudgedAs}
 
 -- A front of a list is told by its length.
 front_taken : {A : Type 0} (k : ℕ) (l : List A) → take (length (take k l)) l ≡ take k l
@@ -33,7 +35,7 @@ record Fronts (j : Judged) (t : ℕ) (numbers opposite l : List ℕ) : Type 0 wh
   owned : take t l ≡ map set_of j.owners
 
 module _ (index : Option (List ℕ)) (mode : ℕ) (s : List ℕ) (j : Judged) (comes : judged_with index mode s ≡ value j) where
-  fronts : {t : ℕ} {numbers opposite l : List ℕ} → JudgedAs index mode s (Sets t) numbers opposite l → Fronts j t numbers opposite l
+  fronts : {t : ℕ} {numbers opposite l : List ℕ} → JudgedAs index mode s (Ok t) numbers opposite l → Fronts j t numbers opposite l
   fronts {t} {numbers} {opposite} {l} (i, e, many, w) = let q : value i ≡ value j = sym e ∙ comes in let same : i ≡ j = cc in subst (λ i. Fronts i t numbers opposite l) same (record {
     many = sym many;
     held =
@@ -44,15 +46,15 @@ module _ (index : Option (List ℕ)) (mode : ℕ) (s : List ℕ) (j : Judged) (c
   })
 
 module _ (index : Option (List ℕ)) (mode : ℕ) (s numbers opposite l numbers' opposite' l' : List ℕ) where
-  same_answer : (r r' : Owning) → JudgedAs index mode s r numbers opposite l → JudgedAs index mode s r' numbers' opposite' l' → r ≡ r'
-  same_answer (Sets t) (Sets t') p q = ap Sets ((fronts index mode s p.0 p.1 p).many ∙ sym (fronts index mode s p.0 p.1 q).many)
-  same_answer (Sets t) (Refused code item) p q = absurd (value_refused p.0 code item (sym p.1 ∙ q))
-  same_answer (Refused code item) (Sets t) p q = absurd (value_refused q.0 code item (sym q.1 ∙ p))
-  same_answer (Refused code item) (Refused code' item') p q = let (c, i) = (same_refusal {A = Judged} code item code' item').0 (sym p ∙ q) in λ k. Refused (sym c k) (sym i k)
+  same_answer : (r r' : Result ℕ Refusal) → JudgedAs index mode s r numbers opposite l → JudgedAs index mode s r' numbers' opposite' l' → r ≡ r'
+  same_answer (Ok t) (Ok t') p q = ap Ok ((fronts index mode s p.0 p.1 p).many ∙ sym (fronts index mode s p.0 p.1 q).many)
+  same_answer (Ok t) (Err f) p q = absurd (value_refused p.0 (code_of f.reason) f.item (sym p.1 ∙ q))
+  same_answer (Err f) (Ok t) p q = absurd (value_refused q.0 (code_of f.reason) f.item (sym q.1 ∙ p))
+  same_answer (Err f) (Err f') p q = let (c, i) = (same_refusal {A = Judged} (code_of f.reason) f.item (code_of f'.reason) f'.item).0 (sym p ∙ q) in ap Err (equal_refusals (sym c) (sym i))
 
   -- The answers are the same. Where the bytes come to a judged sheet, as many numbers as it has, the reverses of its sides and its owner sets are the same too.
-  pub one_outcome : (r r' : Owning) → JudgedAs index mode s r numbers opposite l → JudgedAs index mode s r' numbers' opposite' l'
-      → (r ≡ r') × ((t : ℕ) (j : Judged) → r ≡ Sets t → judged_with index mode s ≡ value j
+  pub one_outcome : (r r' : Result ℕ Refusal) → JudgedAs index mode s r numbers opposite l → JudgedAs index mode s r' numbers' opposite' l'
+      → (r ≡ r') × ((t : ℕ) (j : Judged) → r ≡ Ok t → judged_with index mode s ≡ value j
       → (take (length (numbers_of j.sheet)) numbers ≡ take (length (numbers_of j.sheet)) numbers') × (take (3 * t) opposite ≡ take (3 * t) opposite') × (take t l ≡ take t l'))
   one_outcome r r' p q = (
     same_answer r r' p q,

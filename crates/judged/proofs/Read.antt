@@ -8,7 +8,10 @@ use mathlib.Core.Option.{Option}
 use Prim.Native.Nat.{ℕ}
 use native.Mathlib.Omega.{arith}
 use lib.ListN.{length, take}
-use Rattle.lent.specs.Stages.{Answer, value, refused, and_then}
+use Rattle.std.specs.Prelude.{Result, Ok, Err}
+use Rattle.lent.specs.declared.Refusal.{Refusal}
+use Rattle.lent.specs.Refusals.{code_of}
+use Rattle.lent.specs.Stages.{Answer, value, and_then}
 use Rattle.lent.proofs.Stages.{value_refused, chain_value, chain_refused}
 use Rattle.table.specs.Table.{frame_edges}
 use Rattle.table.proofs.Rules.{passes}
@@ -22,12 +25,10 @@ use Rattle.sheet_form.specs.Numbers.{Sheet, members}
 use Rattle.sheet.specs.Held.{SheetHeld}
 use Rattle.sheet_turned.specs.Rings.{RingsFit}
 use Rattle.sheet_modes.specs.Modes.{read_by}
-use Rattle.judged_sets.specs.declared.Owning.{Owning}
-use Rattle.judged_sets.specs.declared.Owning.TheVariants.{Sets, Refused as RefusedOwning}
 use Rattle.judged_sets.specs.Owning.{held_sets}
 use Rattle.judged.specs.Judged.{Judged, check_framed}
 use Rattle.judged.specs.Judging.{OwnedOf}
-use Rattle.judged.specs.Held.{judge_sheet, JudgedHeld, JudgedAs}
+use Rattle.judged.specs.Held.{judge_sheet, JudgedAs}
 use Rattle.judged.proofs.Stages.{framed_value, polygons_value, sheet_value, whole_around, judged_value, indexed_refused, with_value, with_refused}
 
 -- ---- what the judging of the sheet read comes to
@@ -42,8 +43,8 @@ module _ (index : Option (List ℕ)) (mode : ℕ) (s : List ℕ) (n : Sheet) (r 
   then_index u = and_then (indexed index n.table) held_polygons
 
   -- With its marks.
-  with_marks : (t : ℕ) → OwnedOf index whole n (Sets t) opposite l → check_framed whole n ≡ value tt → indexed index n.table ≡ value tt → (marks : List (List Bool)) → judge_from n.table 1 n.polygons ≡ value marks
-      → owner_sets (length n.table) marks ≡ take t l → JudgedAs index mode s (Sets t) numbers opposite l
+  with_marks : (t : ℕ) → OwnedOf index whole n (Ok t) opposite l → check_framed whole n ≡ value tt → indexed index n.table ≡ value tt → (marks : List (List Bool)) → judge_from n.table 1 n.polygons ≡ value marks
+      → owner_sets (length n.table) marks ≡ take t l → JudgedAs index mode s (Ok t) numbers opposite l
   with_marks t w p i marks u v =
       let j : Judged = record { sheet = n; owners = owners_from (length n.table) 1 marks } in
       let f = (framed_value whole n).0 p in
@@ -64,26 +65,26 @@ module _ (index : Option (List ℕ)) (mode : ℕ) (s : List ℕ) (n : Sheet) (r 
         },
       )
 
-  pub judged_as : (o : Owning) → OwnedOf index whole n o opposite l → JudgedAs index mode s o numbers opposite l
-  judged_as (Sets t) w =
+  pub judged_as : (o : Result ℕ Refusal) → OwnedOf index whole n o opposite l → JudgedAs index mode s o numbers opposite l
+  judged_as (Ok t) w =
       let (u, p, z) = (chain_value (check_framed whole n) then_index (take t l)).0 (sym w.is) in
       let (v, i, q) = (chain_value (indexed index n.table) held_polygons (take t l)).0 z in
       let (marks, f, g) = (chain_value (judge_from n.table 1 n.polygons) (λ sets. value (owner_sets (length n.table) sets)) (take t l)).0 q in
       with_marks t w p i marks f (cc g)
-  judged_as (RefusedOwning code item) w = with_refused mode s index code item (inr (
+  judged_as (Err stop) w = with_refused mode s index (code_of stop.reason) stop.item (inr (
     n,
     r,
-    indexed_refused index whole n code item (elim ((chain_refused (check_framed whole n) then_index code item).0 (sym w.is)) [
+    indexed_refused index whole n (code_of stop.reason) stop.item (elim ((chain_refused (check_framed whole n) then_index (code_of stop.reason) stop.item).0 (sym w.is)) [
       | inl p ↦ inl p
       | inr (u, p, q) ↦ inr (
         p,
-        elim ((chain_refused (indexed index n.table) held_polygons code item).0 q) [
+        elim ((chain_refused (indexed index n.table) held_polygons (code_of stop.reason) stop.item).0 q) [
           | inl i ↦ inl i
           | inr (v, i, q) ↦ inr (
             i,
-            elim ((chain_refused (judge_from n.table 1 n.polygons) (λ sets. value (owner_sets (length n.table) sets)) code item).0 q) [
+            elim ((chain_refused (judge_from n.table 1 n.polygons) (λ sets. value (owner_sets (length n.table) sets)) (code_of stop.reason) stop.item).0 q) [
               | inl f ↦ f
-              | inr (marks, f, g) ↦ absurd (value_refused _ code item g)
+              | inr (marks, f, g) ↦ absurd (value_refused _ (code_of stop.reason) stop.item g)
             ],
           )
         ],

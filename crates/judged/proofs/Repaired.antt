@@ -27,7 +27,6 @@ use Rattle.table.proofs.Shares.{length_sides, length_opposites}
 use Rattle.owners_marks.specs.Marks.{owners_from}
 use Rattle.owners_marks.specs.Listed.{OwnersListed}
 use Rattle.owners_marks.proofs.Owners.{length_owners_from, owners_numbers, owners_listed}
-use Rattle.owners.specs.Owners.{judge_polygons}
 use Rattle.owners.proofs.Polygons.{EachCarried, all_carried, marks_fit, OwnersAre, owners_are}
 use Rattle.repair_regions.specs.Regions.{from}
 use Rattle.repair_regions.specs.Spreading.{Paired}
@@ -40,7 +39,7 @@ use Rattle.repair.proofs.OneOwner.{Connects, paired, connects, refused_by, no_ow
 use Rattle.repair.proofs.Kept.{owners_kept}
 use Rattle.repair_sides.specs.Sides.{boundary_sides, triangles_owned}
 use Rattle.repair_sides.proofs.Bounding.{sides_are_boundary as are_boundary, sides_once as each_once, at_most_one as none_above, owned_once, frame_after}
-use Rattle.sheet_form.specs.Numbers.{Sheet, members, member_numbers, counted}
+use Rattle.sheet_form.specs.Numbers.{members, member_numbers, counted}
 use Rattle.sheet.specs.Held.{SheetHeld}
 use Rattle.sheet_edges.proofs.Triangles.{held_keys}
 use Rattle.judged.specs.Judged.{Judged, repair_of}

@@ -11,14 +11,15 @@ use Rattle.whole.proofs.Sums.{all_at}
 use Rattle.plane.specs.Keys.{Held}
 use Rattle.plane.specs.Boundaries.{sides_of}
 use Rattle.plane_lengths.specs.Lengths.{lengths_of}
-use Rattle.lent.specs.Stages.{value, refused}
+use Rattle.std.specs.Prelude.{Result, Ok, Err}
+use Rattle.lent.specs.Stages.{value}
+use Rattle.lent.specs.Refusals.{refused_as}
+use Rattle.lent.specs.declared.Refusal.{Refusal}
 use Rattle.table.specs.Opposites.{opposites}
 use Rattle.owners_marks.specs.Sets.{owners_of}
 use Rattle.repair_regions.specs.Spreading.{Paired}
 use Rattle.repair_longest.specs.Held.{TableIn, lengths_held}
 use Rattle.repair.specs.Ways.{repaired_by}
-use Rattle.judged_sets.specs.declared.Owning.{Owning}
-use Rattle.judged_sets.specs.declared.Owning.TheVariants.{Sets, Refused}
 use Rattle.judged_sets.proofs.Standing.{polygons_stand}
 use Rattle.judged_sets.proofs.Following.{polygons_count}
 use Rattle.judged.specs.Judged.{Judged, judged_with, repair_of}
@@ -26,13 +27,13 @@ use Rattle.judged.specs.Held.{JudgedHeld, JudgedAs}
 use Rattle.judged.proofs.Repaired.{owners_many, pairs_up}
 use Rattle.judged.proofs.Sides.{lengths_held_lem}
 
-module _ (index : Option (List ℕ)) (mode : ℕ) (s : List ℕ) (r : Owning) (numbers opposite l : List ℕ) (e : JudgedAs index mode s r numbers opposite l) where
+module _ (index : Option (List ℕ)) (mode : ℕ) (s : List ℕ) (r : Result ℕ Refusal) (numbers opposite l : List ℕ) (e : JudgedAs index mode s r numbers opposite l) where
   -- The answer tells whether there is a judged sheet.
-  pub stands : (t : ℕ) → r ≡ Sets t → (j : Judged) × (judged_with index mode s ≡ value j) × (length j.sheet.table ≡ t) × JudgedHeld j numbers (take (3 * t) opposite) (take t l)
+  pub stands : (t : ℕ) → r ≡ Ok t → (j : Judged) × (judged_with index mode s ≡ value j) × (length j.sheet.table ≡ t) × JudgedHeld j numbers (take (3 * t) opposite) (take t l)
   stands t q = subst (λ r. JudgedAs index mode s r numbers opposite l) q e
 
-  pub refused_is : (code item : ℕ) → r ≡ Refused code item → judged_with index mode s ≡ refused code item
-  refused_is code item q = subst (λ r. JudgedAs index mode s r numbers opposite l) q e
+  pub refused_is : (f : Refusal) → r ≡ Err f → judged_with index mode s ≡ refused_as f
+  refused_is f q = subst (λ r. JudgedAs index mode s r numbers opposite l) q e
 
 module _ {j : Judged} {numbers opposite sets : List ℕ} (w : JudgedHeld j numbers opposite sets) where
   -- One owner set for each triangle, of which there are at most 1,024.

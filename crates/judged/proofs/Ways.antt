@@ -1,10 +1,10 @@
 -- Repair in a way, by repair with its choice: an unknown way is refused 54, before repair. Assumes nothing.
-use mathlib.Core.Path.{◌≡◌, refl, sym, ◌∙◌, ap, subst}
+use mathlib.Core.Path.{◌≡◌, ◌∙◌, ap}
 use mathlib.Core.Logic.{◌↔◌, ◌⊎◌, inl, inr}
 use mathlib.Core.List.{List}
 use Prim.Native.Nat.{ℕ, ◌≤◌}
 use borrow.Author.Tests.{le-leb}
-use lib.Dec.{T, leb, leb→le, le→leb}
+use lib.Dec.{leb→le, le→leb}
 use Rattle.plane.specs.Boundaries.{sides_of}
 use Rattle.plane_lengths.specs.Lengths.{lengths_of}
 use Rattle.lent.specs.Stages.{Answer, value, refused, and_then, needing}

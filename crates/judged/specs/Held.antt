@@ -1,8 +1,10 @@
 -- A judged sheet as the code holds it: the sheet in numbers, its owner sets, and the side across each side.
-use Rattle.std.specs.Prelude.{◌≡◌, Bool, true, List, map, ℕ, ◌*◌, ◌/◌, ◌≤◌, min, length, take}
+use Rattle.std.specs.Prelude.{◌≡◌, Bool, true, List, Result, Ok, Err, map, ℕ, ◌*◌, ◌/◌, ◌≤◌, min, length, take}
 use Rattle.std.proofs.Math.Option.{Option, none}
 use Rattle.plane.specs.Boundaries.{sides_of}
-use Rattle.lent.specs.Stages.{Answer, value, refused}
+use Rattle.lent.specs.Stages.{Answer, value}
+use Rattle.lent.specs.Refusals.{refused_as}
+use Rattle.lent.specs.declared.Refusal.{Refusal}
 use Rattle.table.specs.Opposites.{opposites}
 use Rattle.owners_marks.specs.Marks.{set_of}
 use Rattle.owners_marks.specs.Sets.{owners_of}
@@ -10,8 +12,6 @@ use Rattle.sheet_form.specs.Numbers.{Sheet, members}
 use Rattle.sheet.specs.Held.{SheetHeld}
 use Rattle.sheet_turned.specs.Rings.{RingsFit}
 use Rattle.sheet_modes.specs.Held.{Room}
-use Rattle.judged_sets.specs.declared.Owning.{Owning}
-use Rattle.judged_sets.specs.declared.Owning.TheVariants.{Sets, Refused}
 use Rattle.judged.specs.Judged.{Judged, judge_indexed, judged_with}
 
 -- What a sheet comes to with no index.
@@ -39,6 +39,6 @@ Rooms s numbers opposite sets = Room s numbers × (min 3072 (length s / 8) ≤ l
 
 -- The answer with its three lists is what the bytes come to in the mode, with an index or none: a judged sheet of t triangles, held at the fronts of the lists, or the
 -- refusal.
-abbrev pub JudgedAs : Option (List ℕ) → ℕ → List ℕ → Owning → List ℕ → List ℕ → List ℕ → Type 0
-JudgedAs index mode s (Sets t) numbers opposite l = (j : Judged) × (judged_with index mode s ≡ value j) × (length j.sheet.table ≡ t) × JudgedHeld j numbers (take (3 * t) opposite) (take t l)
-JudgedAs index mode s (Refused code item) numbers opposite l = judged_with index mode s ≡ refused code item
+abbrev pub JudgedAs : Option (List ℕ) → ℕ → List ℕ → Result ℕ Refusal → List ℕ → List ℕ → List ℕ → Type 0
+JudgedAs index mode s (Ok t) numbers opposite l = (j : Judged) × (judged_with index mode s ≡ value j) × (length j.sheet.table ≡ t) × JudgedHeld j numbers (take (3 * t) opposite) (take t l)
+JudgedAs index mode s (Err r) numbers opposite l = judged_with index mode s ≡ refused_as r

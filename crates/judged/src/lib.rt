@@ -12,16 +12,15 @@ ghost use Rattle.sheet_modes.specs.Held.{around_of};
 ghost use Rattle.judged.specs.Judging.{OwnedOf};
 ghost use Rattle.judged.specs.Held.{Rooms, JudgedAs};
 
-use judged_sets::Owning;
+use lent::{Reason, Refusal};
 use plane::OFFSET;
-use sheet_modes::{Around, Got};
-use table_check::Check;
+use sheet_blob::Opened;
 
 // The sheet in numbers with work lists of the right lengths: the table rules, the envelope around it, 52 where that isn't the frame, an index that is lent,
 // 53 where it isn't the table's own, and then the polygons.
 fn judge_in(
     numbers: &[u32],
-    around: Around,
+    around: Option<Opened>,
     indexed: bool,
     lent: &[u8],
     keys: &mut [u64],
@@ -29,69 +28,42 @@ fn judge_in(
     index: &mut [u64],
     opposite: &mut [usize],
     sets: &mut [u64],
-) -> Owning
+) -> Result<usize, Refusal>
     requires { ((n : Sheet) × SheetHeld members n numbers.now × (length n.table ≡ length sets.old)) × Lists (3 * length sets.old) keys.old ordered.old index.old opposite.old }
     ensures { (n : Sheet) → SheetHeld members n numbers.now → length n.table ≡ length sets.old → OwnedOf (lent_if indexed lent.now) (framed (around_of around) n) n result opposite.new sets.new }
 {
-    match judged_table::check(numbers, lent, keys, ordered, index, opposite) {
-        Check::Refused(code, item) => Owning::Refused(code, item),
-        Check::Passed(k) => {
-            if !sheet_modes::framed(numbers, around) {
-                return Owning::Refused(52, 0);
-            }
-            if !table_neighbours::agrees(indexed, opposite, lent) {
-                return Owning::Refused(53, 0);
-            }
-            judged_sets::judge_all(numbers, &ordered[..k], index, opposite, sets)
-        }
+    let k = judged_table::check(numbers, lent, keys, ordered, index, opposite)?;
+    if !sheet_modes::framed(numbers, around) {
+        return Err(Refusal {
+            reason: Reason::OtherFrame,
+            item: 0,
+        });
     }
+    if !table_neighbours::agrees(indexed, opposite, lent) {
+        return Err(Refusal {
+            reason: Reason::OtherIndex,
+            item: 0,
+        });
+    }
+    judged_sets::judge_all(numbers, &ordered[..k], index, opposite, sets)
 }
 
-// The sheet in numbers with at most 64 triangles, judged in short work lists.
-fn judge_few(
+// The sheet in numbers with at most so many sides, judged in work lists of that length.
+fn judge_within<const SIDES: usize>(
     numbers: &[u32],
-    around: Around,
+    around: Option<Opened>,
     indexed: bool,
     lent: &[u8],
     opposite: &mut [usize],
     sets: &mut [u64],
-) -> Owning
-    requires { ((n : Sheet) × SheetHeld members n numbers.now × (length n.table ≡ length sets.old)) × (length opposite.old ≡ 3 * length sets.old) × (length sets.old ≤ 64) }
+) -> Result<usize, Refusal>
+    requires { ((n : Sheet) × SheetHeld members n numbers.now × (length n.table ≡ length sets.old)) × (length opposite.old ≡ 3 * length sets.old) × (3 * length sets.old ≤ SIDES) × (SIDES ≤ 3072) }
     ensures { (n : Sheet) → SheetHeld members n numbers.now → length n.table ≡ length sets.old → OwnedOf (lent_if indexed lent.now) (framed (around_of around) n) n result opposite.new sets.new }
 {
     let m = opposite.len();
-    let mut keys = [0u64; 192];
-    let mut ordered = [0u64; 192];
-    let mut index = [0u64; 192];
-    judge_in(
-        numbers,
-        around,
-        indexed,
-        lent,
-        &mut keys[..m],
-        &mut ordered[..m],
-        &mut index[..m],
-        opposite,
-        sets,
-    )
-}
-
-// The sheet in numbers with any triangles, judged in long work lists.
-fn judge_many(
-    numbers: &[u32],
-    around: Around,
-    indexed: bool,
-    lent: &[u8],
-    opposite: &mut [usize],
-    sets: &mut [u64],
-) -> Owning
-    requires { ((n : Sheet) × SheetHeld members n numbers.now × (length n.table ≡ length sets.old)) × (length opposite.old ≡ 3 * length sets.old) }
-    ensures { (n : Sheet) → SheetHeld members n numbers.now → length n.table ≡ length sets.old → OwnedOf (lent_if indexed lent.now) (framed (around_of around) n) n result opposite.new sets.new }
-{
-    let m = opposite.len();
-    let mut keys = [0u64; 3072];
-    let mut ordered = [0u64; 3072];
-    let mut index = [0u64; 3072];
+    let mut keys = [0u64; SIDES];
+    let mut ordered = [0u64; SIDES];
+    let mut index = [0u64; SIDES];
     judge_in(
         numbers,
         around,
@@ -108,31 +80,32 @@ fn judge_many(
 // The sheet in numbers over lists as long as its table asks, judged in short work lists where these do.
 fn judge_over(
     numbers: &[u32],
-    around: Around,
+    around: Option<Opened>,
     indexed: bool,
     lent: &[u8],
     opposite: &mut [usize],
     sets: &mut [u64],
-) -> Owning
+) -> Result<usize, Refusal>
     requires { ((n : Sheet) × SheetHeld members n numbers.now × (length n.table ≡ length sets.old)) × (length opposite.old ≡ 3 * length sets.old) }
     ensures { (n : Sheet) → SheetHeld members n numbers.now → length n.table ≡ length sets.old → OwnedOf (lent_if indexed lent.now) (framed (around_of around) n) n result opposite.new sets.new }
 {
     if sets.len() <= 64 {
-        return judge_few(numbers, around, indexed, lent, opposite, sets);
+        judge_within::<192>(numbers, around, indexed, lent, opposite, sets)
+    } else {
+        judge_within::<3072>(numbers, around, indexed, lent, opposite, sets)
     }
-    judge_many(numbers, around, indexed, lent, opposite, sets)
 }
 
 // The sheet in numbers: its owner sets, laid down at the front of the lent ones, and beside them the number of the reverse of each side; or the
 // refusal.
 pub fn judge(
     numbers: &[u32],
-    around: Around,
+    around: Option<Opened>,
     indexed: bool,
     lent: &[u8],
     opposite: &mut [usize],
     sets: &mut [u64],
-) -> Owning
+) -> Result<usize, Refusal>
     requires { ((n : Sheet) × SheetHeld members n numbers.now) × (min 3072 (length numbers.now / 2) ≤ length opposite.old) × (min 1024 (length numbers.now / 6) ≤ length sets.old) }
     ensures { (n : Sheet) → SheetHeld members n numbers.now → OwnedOf (lent_if indexed lent.now) (framed (around_of around) n) n result opposite.new sets.new }
 {
@@ -158,14 +131,12 @@ pub fn judged_with(
     numbers: &mut [u32],
     opposite: &mut [usize],
     sets: &mut [u64],
-) -> Owning
+) -> Result<usize, Refusal>
     requires { Rooms sheet.now numbers.old opposite.old sets.old }
     ensures { JudgedAs (lent_if indexed lent.now) mode sheet.now result numbers.new opposite.new sets.new }
 {
-    match sheet_modes::read(sheet, mode, numbers) {
-        Got::Refused(code, item, _) => Owning::Refused(code, item),
-        Got::Sheet(n, around) => judge(&numbers[..n], around, indexed, lent, opposite, sets),
-    }
+    let (n, around) = sheet_modes::read(sheet, mode, numbers)?;
+    judge(&numbers[..n], around, indexed, lent, opposite, sets)
 }
 
 // The same with no index.
@@ -175,7 +146,7 @@ pub fn judged(
     numbers: &mut [u32],
     opposite: &mut [usize],
     sets: &mut [u64],
-) -> Owning
+) -> Result<usize, Refusal>
     requires { Rooms sheet.now numbers.old opposite.old sets.old }
     ensures { JudgedAs none mode sheet.now result numbers.new opposite.new sets.new }
 {

@@ -13,7 +13,10 @@ use Rattle.whole.specs.Sums.{All}
 use Rattle.plane.specs.Points.{Triangle}
 use Rattle.plane.specs.Members.{Member, member_edges}
 use Rattle.plane.specs.Corners.{millimetres}
+use Rattle.std.specs.Prelude.{Result, Ok, Err}
 use Rattle.lent.specs.Stages.{Answer, value, refused, and_then}
+use Rattle.lent.specs.Refusals.{code_of, refused_as}
+use Rattle.lent.specs.declared.Refusal.{Refusal}
 use Rattle.sheet_form.specs.Numbers.{member_numbers}
 use Rattle.sheet_edges.specs.declared.Laid.{Laid}
 use Rattle.sheet_edges.specs.Standing.{LaysDown}
@@ -22,11 +25,8 @@ use Rattle.table_count.specs.Counting.{Edged}
 use Rattle.owners_marks.specs.Sets.{owner_sets, marked}
 use Rattle.owners_marks.proofs.Owning.{owner_sets_more, owner_sets_below}
 use Rattle.owners_marks.proofs.Owners.{length_owner_sets}
-use Rattle.owners_judge.specs.declared.Judging.TheVariants.{Carried}
-use Rattle.owners.specs.Judging.{carried, judge}
+use Rattle.owners.specs.Judging.{judge}
 use Rattle.owners.specs.Owners.{stage_of, judge_from}
-use Rattle.owners_judge.specs.Judged.{judged_of}
-use Rattle.judged_sets.specs.declared.Turn.{Turn}
 use Rattle.judged_sets.specs.Owning.{PolygonAt, PolygonsAt, EdgeRoom, TurnOf, held_sets}
 use Rattle.judged_sets.proofs.Room.{edges_room}
 
@@ -81,9 +81,9 @@ pub record Following (table : List Triangle) (numbers : List ℕ) (ms : List Mem
   pub comes : judge_from table 1 ms ≡ before done (judge_from table (suc k) todo)
   pub marks_are : marks ≡ owner_sets (length table) done
 
--- What a polygon at the place is judged as.
-abbrev pub Turns : List Triangle → List ℕ → ℕ → Turn → List Bool → Type 0
-Turns table numbers at r labels = (m : Member) (rest : List ℤ) → PolygonAt numbers at m rest → TurnOf table numbers m rest r labels
+-- What polygon k, at the place, is judged as.
+abbrev pub Turns : List Triangle → List ℕ → ℕ → ℕ → Result ℕ Refusal → List Bool → Type 0
+Turns table numbers at k r labels = (m : Member) (rest : List ℤ) → PolygonAt numbers at m rest → TurnOf table numbers k m rest r labels
 
 -- The count of the polygons is held at their place, and fits.
 pub polygons_count : {numbers : List ℕ} {at : ℕ} {ms : List Member} {rest : List ℤ} → PolygonsAt numbers at ms rest
@@ -133,32 +133,30 @@ module _ {table : List Triangle} {numbers : List ℕ} {ms : List Member} {rest :
         go (m ∷ t) l f s = (m, flat_map member_numbers t ++ rest, record { numbers_at = s ∙ append_assoc (member_numbers m) (flat_map member_numbers t) rest; few = f.0 })
 
     -- The one at the place is refused: that is what all come to.
-    pub following_refused : {r : Turn} {labels : List Bool} → k < length ms → Turns table numbers at r labels → (c : ℕ) → stage_of (suc k) (judged_of r.judging labels) ≡ refused c (suc k)
-        → refused c (k + 1) ≡ held_sets table ms
+    pub following_refused : {r : Refusal} {labels : List Bool} → k < length ms → Turns table numbers at (k + 1) (Err r) labels → refused_as r ≡ held_sets table ms
     unfolding flat_map
-    following_refused {r} {labels} h turns c e = go w.todo w.left w.few w.stand w.comes
+    following_refused {r} {labels} h turns = go w.todo w.left w.few w.stand w.comes
       where
         go : (todo : List Member) → k + length todo ≡ length ms → All (λ m. length (member_edges m) ≤ 4096) todo → map millimetres (drop at numbers) ≡ flat_map member_numbers todo ++ rest
-            → judge_from table 1 ms ≡ before w.done (judge_from table (suc k) todo) → refused c (k + 1) ≡ held_sets table ms
+            → judge_from table 1 ms ≡ before w.done (judge_from table (suc k) todo) → refused_as r ≡ held_sets table ms
         go [] l f s q = absurd (omega arith)
         go (m ∷ t) l f s q =
             let x = turns m (flat_map member_numbers t ++ rest) (record { numbers_at = s ∙ append_assoc (member_numbers m) (flat_map member_numbers t) rest; few = f.0 }) in
-            let y : stage_of (suc k) (judge table m) ≡ refused c (suc k) = ap (stage_of (suc k)) (sym x.judged) ∙ e in
-            ap (refused c) (add-one k)
-            ∙ sym (ap marks_of (q ∙ ap (λ a. before w.done (and_then a (behind t))) y ∙ before_refused w.done c (suc k)))
+            let y : stage_of (suc k) (judge table m) ≡ refused_as r = ap (λ j. stage_of j (judge table m)) (sym (add-one k)) ∙ sym x.judged in
+            sym (ap marks_of (q ∙ ap (λ a. before w.done (and_then a (behind t))) y ∙ before_refused w.done (code_of r.reason) r.item))
 
     -- The one at the place is carried: one set more is found, and marked.
-    pub following_more : {r : Turn} {labels : List Bool} → k < length ms → Turns table numbers at r labels → r.judging ≡ Carried → length labels ≡ length table
-        → Following table numbers ms rest r.at (k + 1) (marked k labels marks)
+    pub following_more : {next : ℕ} {labels : List Bool} → k < length ms → Turns table numbers at (k + 1) (Ok next) labels → length labels ≡ length table
+        → Following table numbers ms rest next (k + 1) (marked k labels marks)
     unfolding flat_map
-    following_more {r} {labels} h turns e n = go w.todo w.left w.few w.stand w.comes
+    following_more {next} {labels} h turns n = go w.todo w.left w.few w.stand w.comes
       where
         go : (todo : List Member) → k + length todo ≡ length ms → All (λ m. length (member_edges m) ≤ 4096) todo → map millimetres (drop at numbers) ≡ flat_map member_numbers todo ++ rest
-            → judge_from table 1 ms ≡ before w.done (judge_from table (suc k) todo) → Following table numbers ms rest r.at (k + 1) (marked k labels marks)
+            → judge_from table 1 ms ≡ before w.done (judge_from table (suc k) todo) → Following table numbers ms rest next (k + 1) (marked k labels marks)
         go [] l f s q = absurd (omega arith)
         go (m ∷ t) l f s q =
             let x = turns m (flat_map member_numbers t ++ rest) (record { numbers_at = s ∙ append_assoc (member_numbers m) (flat_map member_numbers t) rest; few = f.0 }) in
-            let y : judge table m ≡ carried labels = sym x.judged ∙ ap (λ j. judged_of j labels) e in
+            let y : stage_of (suc k) (judge table m) ≡ value labels = ap (λ j. stage_of j (judge table m)) (sym (add-one k)) ∙ sym x.judged in
             record {
               done = w.done ++ labels ∷ [];
               todo = t;
@@ -166,8 +164,8 @@ module _ {table : List Triangle} {numbers : List ℕ} {ms : List Member} {rest :
               each = all_more (λ s. length s ≡ length table) w.done labels w.each n;
               left = omega arith;
               few = f.1;
-              stand = x.behind;
-              comes = q ∙ ap (λ j. before w.done (and_then (stage_of (suc k) j) (behind t))) y ∙ before_more w.done labels (judge_from table (suc (suc k)) t)
+              stand = x.behind next refl;
+              comes = q ∙ ap (λ a. before w.done (and_then a (behind t))) y ∙ before_more w.done labels (judge_from table (suc (suc k)) t)
                   ∙ ap (λ j. before (w.done ++ labels ∷ []) (judge_from table (suc j) t)) (sym (add-one k));
               marks_are = ap (marked k labels) w.marks_are ∙ ap (λ j. marked j labels (owner_sets (length table) w.done)) (sym w.many) ∙ sym (owner_sets_more (length table) w.done labels);
             }

@@ -6,7 +6,7 @@ ghost use Rattle.sheet_form.specs.Numbers.{Sheet};
 ghost use Rattle.sheet.specs.Held.{SheetHeld};
 ghost use Rattle.judged_table.specs.Checked.{Lists, TableChecked};
 
-use table_check::Check;
+use lent::Refusal;
 
 // The table rules in their order: 10 over all triangles, then 11, then 12 against the frame. The corners are laid down in work lists of the right lengths; a lent
 // index may say where the side across a side is looked for first.
@@ -17,7 +17,7 @@ pub fn check(
     ordered: &mut [u64],
     index: &mut [u64],
     opposite: &mut [usize],
-) -> Check
+) -> Result<usize, Refusal>
     requires { ((limit : ℕ) × (n : Sheet) × SheetHeld limit n numbers.now × (3 * length n.table ≡ length keys.old)) × Lists (length keys.old) keys.old ordered.old index.old opposite.old }
     ensures { (limit : ℕ) (n : Sheet) → SheetHeld limit n numbers.now → 3 * length n.table ≡ length keys.old
         → TableChecked n keys.new ordered.new index.new opposite.new result }

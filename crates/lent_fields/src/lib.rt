@@ -7,12 +7,6 @@ ghost use Rattle.std.specs.Float.Ieee.{of_bits, to_bits};
 ghost use Rattle.lent_little.specs.Ordered.{number_of, field, remains, word_at, double_at};
 ghost use Rattle.lent_little.specs.Places.{place_of};
 
-fn wide(b: u8) -> u64
-    ensures { result ≡ b }
-{
-    b as u64
-}
-
 // Where the byte of the weight 256 ^ (n - 1 - k) of n bytes stands.
 fn place(little: bool, at: usize, n: usize, k: usize) -> usize
     requires { (k < n) × (at + n < 2 ^ 64) }
@@ -27,11 +21,9 @@ fn number(s: &[u8], at: usize, n: usize, little: bool) -> u64
     ensures { (result ≡ number_of little (field s.now at n)) × (result < 2 ^ (8 * n)) }
 {
     let mut v: u64 = 0;
-    let mut k: usize = 0;
-    while k < n {
+    for k in 0..n {
         let i = place(little, at, n, k);
-        v = v * 256 + wide(s[i]);
-        k += 1;
+        v = v * 256 + u64::from(s[i]);
     }
     v
 }

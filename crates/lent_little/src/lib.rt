@@ -11,12 +11,10 @@ pub fn put(out: &mut [u8], to: usize, value: u64, n: usize)
     ensures { out.new ≡ sets out.old to (bytes n value) }
 {
     let mut v = value;
-    let mut i: usize = 0;
-    while i < n {
+    for i in 0..n {
         if to + i < out.len() {
             out[to + i] = (v % 256) as u8;
         }
-        v = v / 256;
-        i += 1;
+        v /= 256;
     }
 }

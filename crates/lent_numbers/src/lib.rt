@@ -33,9 +33,7 @@ pub fn write(numbers: &[u32], n: usize, out: &mut [u8])
     requires { (n ≤ length numbers.now) × (4 * n ≤ length out.old) }
     ensures { out.new ≡ flat_map held_bytes (take n numbers.now) ++ drop (4 * n) out.old }
 {
-    let mut i: usize = 0;
-    while i < n {
+    for i in 0..n {
         put(out, 4 * i, numbers[i]);
-        i += 1;
     }
 }

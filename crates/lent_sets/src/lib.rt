@@ -5,29 +5,33 @@ ghost use Rattle.std.specs.Prelude.{◌≡◌, ◌*◌, ◌≤◌, length, take,
 ghost use mathlib.Core.List.{flat_map, ◌++◌};
 ghost use Rattle.lent_little.specs.Bytes.{set_bytes};
 ghost use Rattle.lent.specs.Answered.{Answered};
+ghost use Rattle.lent.specs.Told.{number_of};
 ghost use Rattle.lent_sets.specs.Sets.{each_outcome};
+
+use lent::{Reason, Refusal};
 
 // Writes the first n numbers over the front of the lent bytes.
 fn write(numbers: &[u64], n: usize, out: &mut [u8])
     requires { (n ≤ length numbers.now) × (8 * n ≤ length out.old) }
     ensures { out.new ≡ flat_map set_bytes (take n numbers.now) ++ drop (8 * n) out.old }
 {
-    let mut i: usize = 0;
-    while i < n {
+    for i in 0..n {
         lent_little::put(out, 8 * i, numbers[i], 8);
-        i += 1;
     }
 }
 
 // Each number as a little-endian u64, in their order; the item is how many there are.
-pub fn each(numbers: &[u64], out: &mut [u8]) -> u64
+pub fn each(numbers: &[u64], out: &mut [u8]) -> Result<u32, Refusal>
     requires { length numbers.now ≤ 1024 }
-    ensures { Answered (each_outcome numbers.now) out.old result out.new }
+    ensures { Answered (each_outcome numbers.now) out.old (number_of result) out.new }
 {
     let n = numbers.len();
     if out.len() / 8 < n {
-        return 40;
+        return Err(Refusal {
+            reason: Reason::Room,
+            item: 0,
+        });
     }
     write(numbers, n, out);
-    n as u64 * 256
+    Ok(n as u32)
 }

@@ -20,12 +20,9 @@ pub fn put_word(text: &mut [u8], at: usize, word: &[u8]) -> usize
     requires { at + length word.now ≤ length text.old }
     ensures { Put at word.now text.old result text.new }
 {
-    let mut i: usize = 0;
-    while i < word.len() {
-        text[at + i] = word[i];
-        i += 1;
-    }
-    at + word.len()
+    let end = at + word.len();
+    text[at..end].copy_from_slice(word);
+    end
 }
 
 // Puts the digits of a number, so many at most: those of its tenth, and then its last.

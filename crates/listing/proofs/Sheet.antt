@@ -16,8 +16,8 @@ use Rattle.table.specs.Sets.{chosen}
 use Rattle.owners_marks.specs.Marks.{standing_by}
 use Rattle.owners_marks.specs.Sets.{owners_of}
 use Rattle.repair_longest.specs.Held.{lengths_held}
-use Rattle.repair.specs.declared.Repaired.{Repaired}
-use Rattle.repair.specs.declared.Repaired.TheVariants.{Done, Refused}
+use Rattle.std.specs.Prelude.{Result, Ok, Err}
+use Rattle.lent.specs.declared.Refusal.{Refusal}
 use Rattle.repair.specs.Giving.{RepairedBy, repair_of as answer_of}
 use Rattle.listing_figures.specs.declared.Figure.{Figure}
 use Rattle.listing_figures.specs.declared.Figure.TheVariants.{Gaps, Overlaps}
@@ -29,7 +29,7 @@ use Rattle.judged.proofs.Repaired.{owners_many}
 use Rattle.judged.proofs.Standing.{few, sets_many, repair_held}
 use Rattle.lent_text.specs.Text.{line_of}
 use Rattle.listing_lines.specs.Lines.{sheet_word, polygon_word, gap_word, overlap_word, after_word, clean_line, repair_line, numbered}
-use Rattle.listing_lines.specs.Printing.{Figures, line_by, verdict_by, head_by, after_by, lines_by}
+use Rattle.listing_lines.specs.Printing.{Figures, line_by, verdict_by, head_by, after_by, lines_by, told}
 use Rattle.listing.specs.Listing.{figure_line, verdict_line, head_of, after_lines, listing_of}
 use Rattle.listing.specs.Held.{AreasOf}
 use Rattle.listing.proofs.Figures.{polygons_told, polygons_after, gaps_are, overlaps_are, figure_lines, verdict_is}
@@ -74,11 +74,11 @@ module _ {j : Judged} {numbers opposite sets : List ℕ} (w : JudgedHeld j numbe
       (line_is overlap_word Overlaps _ overlaps))
       verdict_same
 
-  after_is : (way : ℕ) (done : Repaired) → answer_of done owners ≡ repair_of way j → after_by done (length j.sheet.polygons) sets owners areas ≡ after_lines j.sheet (repair_of way j)
-  after_is way Done e = ap (numbered after_word 1) (sym (polygons_after w.comes areas sets owners a.are w.sets_are (each ∙ sets_many w))) ∙ ap (after_lines j.sheet) e
-  after_is way (Refused code item) e = ap (after_lines j.sheet) e
+  after_is : (way : ℕ) (done : Result (Unit {0}) Refusal) → answer_of done owners ≡ repair_of way j → after_by (told done) (length j.sheet.polygons) sets owners areas ≡ after_lines j.sheet (repair_of way j)
+  after_is way (Ok _) e = ap (numbered after_word 1) (sym (polygons_after w.comes areas sets owners a.are w.sets_are (each ∙ sets_many w))) ∙ ap (after_lines j.sheet) e
+  after_is way (Err r) e = ap (after_lines j.sheet) e
 
   -- The lines by the figures, and by what repair came to, are the listing.
-  pub listing_is : {lent : List ℕ} (way : ℕ) (done : Repaired) → RepairedBy way (lengths_held numbers (length opposite)) opposite (map owners_of sets) lent done owners
-      → lines_by done doubles sets owners areas ≡ listing_of way j
-  listing_is way done r = ap₂ ◌++◌ head_is (ap (λ n. after_by done n sets owners areas) many ∙ after_is way done (r.answer ∙ repair_held w way))
+  pub listing_is : {lent : List ℕ} (way : ℕ) (done : Result (Unit {0}) Refusal) → RepairedBy way (lengths_held numbers (length opposite)) opposite (map owners_of sets) lent done owners
+      → lines_by (told done) doubles sets owners areas ≡ listing_of way j
+  listing_is way done r = ap₂ ◌++◌ head_is (ap (λ n. after_by (told done) n sets owners areas) many ∙ after_is way done (r.answer ∙ repair_held w way))

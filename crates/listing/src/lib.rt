@@ -8,7 +8,6 @@ ghost use Rattle.lent_text.specs.Putting.{Put};
 ghost use Rattle.listing.specs.Listing.{listing_of, listing};
 ghost use Rattle.listing.specs.Held.{AreasOf};
 
-use judged_sets::Owning;
 use plane::OFFSET;
 
 // The double area of each triangle of a judged sheet.
@@ -35,7 +34,7 @@ fn put_judged(way: u32, numbers: &[u32], opposite: &[usize], sets: &[u64], text:
     sheet_areas::areas(numbers, &mut doubles[..polygons]);
     lay_areas(numbers, &mut areas[..n]);
     let done = repair::repair(way, numbers, opposite, sets, &mut owners[..n]);
-    listing_lines::put_lines(
+    listing_lines::put_repaired(
         text,
         done,
         &doubles[..polygons],
@@ -54,13 +53,13 @@ pub fn print(sheet: &[u8], mode: u32, way: u32, text: &mut [u8]) -> usize
     let mut opposite = [0usize; 3072];
     let mut sets = [0u64; 1024];
     match judged::judged(sheet, mode, &mut numbers, &mut opposite, &mut sets) {
-        Owning::Refused(code, item) => lent_text::put_line(
+        Err(refusal) => lent_text::put_line(
             text,
             0,
             b"refused",
-            code as u64,
-            item as u64,
+            refusal.reason.code() as u64,
+            refusal.item as u64,
         ),
-        Owning::Sets(n) => put_judged(way, &numbers, &opposite[..3 * n], &sets[..n], text),
+        Ok(n) => put_judged(way, &numbers, &opposite[..3 * n], &sets[..n], text),
     }
 }

@@ -1,2 +1,3 @@
 -- The laws of figures.
 pub mod Totals
+pub mod Measuring

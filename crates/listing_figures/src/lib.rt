@@ -17,10 +17,8 @@ pub fn areas(keys: &[u64], areas: &mut [u64])
     requires { All Key keys.now × RuleA (triangles_of keys.now) × (length keys.now ≡ 3 * length areas.old) }
     ensures { (map pos areas.new ≡ map double (triangles_of keys.now)) × All (λ a. a ≤ 800_000_000_000_000) areas.new }
 {
-    let mut t: usize = 0;
-    while t < areas.len() {
-        areas[t] = plane_exact::area_at(keys, t) as u64;
-        t += 1;
+    for (t, area) in areas.iter_mut().enumerate() {
+        *area = plane_exact::area_at(keys, t) as u64;
     }
 }
 
@@ -44,16 +42,8 @@ fn is_counted(which: Figure, set: u64, owner: u8) -> bool
     ensures { result ≡ counts which set owner }
 {
     match which {
-        Figure::Gaps => match owners_marks::standing_of(set) {
-            Standing::Gap => true,
-            Standing::Single(_) => false,
-            Standing::Overlap(_) => false,
-        },
-        Figure::Overlaps => match owners_marks::standing_of(set) {
-            Standing::Gap => false,
-            Standing::Single(_) => false,
-            Standing::Overlap(_) => true,
-        },
+        Figure::Gaps => matches!(owners_marks::standing_of(set), Standing::Gap),
+        Figure::Overlaps => matches!(owners_marks::standing_of(set), Standing::Overlap(_)),
         Figure::After(k) => owner as u32 == k,
     }
 }
@@ -66,16 +56,11 @@ pub fn tally(which: Figure, sets: &[u64], owners: &[u8], areas: &[u64]) -> Total
 {
     let mut triangles: usize = 0;
     let mut area: u64 = 0;
-    let mut t: usize = 0;
-    while t < areas.len() {
+    for t in 0..areas.len() {
         if is_counted(which, sets[t], owners[t]) {
             triangles += 1;
             area += areas[t];
         }
-        t += 1;
     }
-    Total {
-        triangles: triangles,
-        area: area,
-    }
+    Total { triangles, area }
 }

@@ -1,10 +1,10 @@
 -- The lines of the listing by the figures of the sheet: a double area for each polygon; an owner set, an owner number and a double area for each triangle.
-use Rattle.std.specs.Prelude.{◌≡◌, cond, List, map, ◌++◌, ℕ, ◌+◌, ◌≤◌, eqb, pos, length}
+use Rattle.std.specs.Prelude.{◌≡◌, cond, List, Result, Ok, Err, map, ◌++◌, ℕ, ◌+◌, ◌≤◌, eqb, pos, length}
 use Rattle.whole.specs.Sums.{All}
 use Rattle.table.specs.Sets.{chosen}
 use Rattle.repair_regions.specs.Regions.{from}
-use Rattle.repair.specs.declared.Repaired.{Repaired}
-use Rattle.repair.specs.declared.Repaired.TheVariants.{Done, Refused}
+use Rattle.lent.specs.declared.Refusal.{Refusal}
+use Rattle.lent.specs.Refusals.{code_of}
 use Rattle.lent_text.specs.Text.{line_of}
 use Rattle.listing_figures.specs.declared.Figure.{Figure}
 use Rattle.listing_figures.specs.declared.Figure.TheVariants.{Gaps, Overlaps, After}
@@ -32,14 +32,19 @@ head_by doubles l owners areas =
     ++ line_by overlap_word Overlaps l owners areas
     ++ verdict_by l owners areas
 
--- The lines behind the verdict: what each polygon owns after repair, or the refusal of repair.
-abbrev pub after_by : Repaired → ℕ → List ℕ → List ℕ → List ℕ → List ℕ
-after_by Done polygons l owners areas = numbered after_word 1 (map pos (map (owned_by l owners areas) (from 1 polygons)))
-after_by (Refused code item) polygons l owners areas = refused_line code item
+-- The lines behind the verdict: what each polygon owns after repair, or the code and the item of the refusal of repair.
+abbrev pub after_by : Result (Unit {0}) (ℕ × ℕ) → ℕ → List ℕ → List ℕ → List ℕ → List ℕ
+after_by (Ok _) polygons l owners areas = numbered after_word 1 (map pos (map (owned_by l owners areas) (from 1 polygons)))
+after_by (Err r) polygons l owners areas = refused_line r.0 r.1
 
 -- All of its lines.
-abbrev pub lines_by : Repaired → List ℕ → List ℕ → List ℕ → List ℕ → List ℕ
+abbrev pub lines_by : Result (Unit {0}) (ℕ × ℕ) → List ℕ → List ℕ → List ℕ → List ℕ → List ℕ
 lines_by done doubles l owners areas = head_by doubles l owners areas ++ after_by done (length doubles) l owners areas
+
+-- What repair came to, with the code of its refusal.
+abbrev pub told : Result (Unit {0}) Refusal → Result (Unit {0}) (ℕ × ℕ)
+told (Ok u) = Ok u
+told (Err r) = Err (code_of r.reason, r.item)
 
 -- The lists of a sheet's figures: an owner set, an owner number and a double area for each triangle.
 pub record Figures (l owners areas : List ℕ) : Type 0 where

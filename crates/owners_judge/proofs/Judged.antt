@@ -7,6 +7,7 @@ use mathlib.Core.List.{List}
 use Prim.Native.Nat.{ℕ, ◌<◌}
 use native.Mathlib.Omega.{arith}
 use lib.ListN.{length, get_or, replicate, length-replicate}
+use Rattle.std.specs.Prelude.{Result, Ok, Err}
 use Rattle.plane.specs.Points.{Triangle}
 use Rattle.plane.specs.Boundaries.{SameBoundary, sides_of}
 use Rattle.plane.specs.Members.{Member, member_edges}
@@ -17,8 +18,8 @@ use Rattle.table.proofs.Sets.{zero_empty}
 use Rattle.table.specs.Sides.{triangles_of, evenly, Shares}
 use Rattle.table.proofs.Shares.{length_triangles}
 use Rattle.table_count.specs.Counting.{pieces_of, Edged, Tallied, Settled, Stray}
-use Rattle.owners_judge.specs.declared.Judging.{Judging}
-use Rattle.owners_judge.specs.declared.Judging.TheVariants.{Carried as Yes, NotCarried as No, NoGround as Bare}
+use Rattle.owners_judge.specs.declared.Unowned.{Unowned}
+use Rattle.owners_judge.specs.declared.Unowned.TheVariants.{NotCarried as No, NoGround as Bare}
 use Rattle.owners.specs.Judging.{Carries, Groundless, carried, not_carried, no_ground, code, judge, AreaOfOwnership}
 use Rattle.owners_judge.specs.Preparing.{Prepared}
 use Rattle.owners_judge.specs.Judged.{judged_of}
@@ -81,42 +82,42 @@ module _ (keys ordered index opposite : List ℕ) (prepared : Prepared keys orde
 -- ---- demand 3 for the code
 -- What the judging of one polygon says of its answer: 20 exactly if no set of triangles has the member's boundary, 21 exactly if that is zero everywhere; a carried member's labels are
 -- the only set that has it, and their triangles' double areas add up to the member's.
-pub judging_says : (table : List Triangle) (m : Member) → RuleA table → RuleB table → (r : Judging) (labels : List Bool) → judged_of r labels ≡ judge table m
-    → ((code (judged_of r labels) ≡ 20) ↔ ((s : List Bool) → SetOf table s → Carries table s m → ⊥)) × ((code (judged_of r labels) ≡ 21) ↔ Groundless table m) × (r ≡ Yes → AreaOfOwnership table m labels)
+pub judging_says : (table : List Triangle) (m : Member) → RuleA table → RuleB table → (r : Result (Unit {0}) Unowned) (labels : List Bool) → judged_of r labels ≡ judge table m
+    → ((code (judged_of r labels) ≡ 20) ↔ ((s : List Bool) → SetOf table s → Carries table s m → ⊥)) × ((code (judged_of r labels) ≡ 21) ↔ Groundless table m) × (r ≡ Ok tt → AreaOfOwnership table m labels)
 judging_says table m area once r labels e = (
   (λ q. (not_carried_lem table m area once).0 (sym e ∙ by_20 r q), λ h. ap code (e ∙ (not_carried_lem table m area once).1 h)),
   (λ q. (no_ground_lem table m area once).0 (sym e ∙ by_21 r q), λ h. ap code (e ∙ (no_ground_lem table m area once).1 h)),
   λ q. answered table m area once labels (sym e ∙ ap (λ r. judged_of r labels) q),
 )
   where
-    by_20 : (r : Judging) → code (judged_of r labels) ≡ 20 → judged_of r labels ≡ not_carried
-    by_20 Yes q = absurd (omega arith)
-    by_20 No q = refl
-    by_20 Bare q = absurd (omega arith)
+    by_20 : (r : Result (Unit {0}) Unowned) → code (judged_of r labels) ≡ 20 → judged_of r labels ≡ not_carried
+    by_20 (Ok u) q = absurd (omega arith)
+    by_20 (Err No) q = refl
+    by_20 (Err Bare) q = absurd (omega arith)
 
-    by_21 : (r : Judging) → code (judged_of r labels) ≡ 21 → judged_of r labels ≡ no_ground
-    by_21 Yes q = absurd (omega arith)
-    by_21 No q = absurd (omega arith)
-    by_21 Bare q = refl
+    by_21 : (r : Result (Unit {0}) Unowned) → code (judged_of r labels) ≡ 21 → judged_of r labels ≡ no_ground
+    by_21 (Ok u) q = absurd (omega arith)
+    by_21 (Err No) q = absurd (omega arith)
+    by_21 (Err Bare) q = refl
 
 -- Two outcomes that the contract of `judge` allows are equal: the answer, and where the polygon is carried every label.
-pub one_outcome : (r r' : Judging) (a b : List Bool) → judged_of r a ≡ judged_of r' b → (r ≡ r') × (r ≡ Yes → a ≡ b)
+pub one_outcome : (r r' : Result (Unit {0}) Unowned) (a b : List Bool) → judged_of r a ≡ judged_of r' b → (r ≡ r') × (r ≡ Ok tt → a ≡ b)
 one_outcome r r' a b e = (same r r' (ap code e), λ q. labels r r' q e)
   where
-    same : (r r' : Judging) → code (judged_of r a) ≡ code (judged_of r' b) → r ≡ r'
-    same Yes Yes q = refl
-    same No No q = refl
-    same Bare Bare q = refl
-    same Yes No q = absurd (omega arith)
-    same Yes Bare q = absurd (omega arith)
-    same No Yes q = absurd (omega arith)
-    same No Bare q = absurd (omega arith)
-    same Bare Yes q = absurd (omega arith)
-    same Bare No q = absurd (omega arith)
+    same : (r r' : Result (Unit {0}) Unowned) → code (judged_of r a) ≡ code (judged_of r' b) → r ≡ r'
+    same (Ok u) (Ok v) q = refl
+    same (Err No) (Err No) q = refl
+    same (Err Bare) (Err Bare) q = refl
+    same (Ok u) (Err No) q = absurd (omega arith)
+    same (Ok u) (Err Bare) q = absurd (omega arith)
+    same (Err No) (Ok u) q = absurd (omega arith)
+    same (Err No) (Err Bare) q = absurd (omega arith)
+    same (Err Bare) (Ok u) q = absurd (omega arith)
+    same (Err Bare) (Err No) q = absurd (omega arith)
 
-    labels : (r r' : Judging) → r ≡ Yes → judged_of r a ≡ judged_of r' b → a ≡ b
-    labels Yes Yes q e = cc e
-    labels Yes No q e = absurd (omega (arith, ap code e))
-    labels Yes Bare q e = absurd (omega (arith, ap code e))
-    labels No r' q e = absurd (let z : ◌≡◌ {A = ℕ} 0 1 = cc q in omega arith)
-    labels Bare r' q e = absurd (let z : ◌≡◌ {A = ℕ} 0 1 = cc q in omega arith)
+    labels : (r r' : Result (Unit {0}) Unowned) → r ≡ Ok tt → judged_of r a ≡ judged_of r' b → a ≡ b
+    labels (Ok u) (Ok v) q e = cc e
+    labels (Ok u) (Err No) q e = absurd (omega (arith, ap code e))
+    labels (Ok u) (Err Bare) q e = absurd (omega (arith, ap code e))
+    labels (Err No) r' q e = absurd (cc q)
+    labels (Err Bare) r' q e = absurd (cc q)

@@ -10,10 +10,9 @@ ghost use Rattle.owners.specs.Judging.{judge};
 ghost use Rattle.owners_judge.specs.Preparing.{Prepared, WorkLists};
 ghost use Rattle.owners_judge.specs.Judged.{judged_of};
 
-// What the judging of a polygon answers: carried, by the labelled set; not carried; or no ground.
-#[derive(Clone, Copy)]
-pub enum Judging {
-    Carried,
+// Why a polygon has no area of ownership: no set carries it, or it has no ground.
+#[derive(Clone, Copy, Debug, PartialEq, Eq)]
+pub enum Unowned {
     NotCarried,
     NoGround,
 }
@@ -29,20 +28,20 @@ pub fn judge(
     touched: &mut [usize],
     labels: &mut [bool],
     group: &mut [usize],
-) -> Judging
+) -> Result<(), Unowned>
     requires { ((keys : List ℕ) × Prepared keys ordered.now index.now opposite.now × WorkLists keys counts.old touched.old labels.old group.old) × Edged from.now to.now }
     ensures { (keys : List ℕ) (m : Member) → Prepared keys ordered.now index.now opposite.now → WorkLists keys counts.old touched.old labels.old group.old
         → pairs from.now to.now ≡ member_edges m → judged_of result labels.new ≡ judge (triangles_of keys) m }
 {
     if !table_tally::tally(ordered, index, from, to, counts) {
-        return Judging::NotCarried;
+        return Err(Unowned::NotCarried);
     }
     let n = table_spread::touched(counts, touched);
     if n == 0 {
-        return Judging::NoGround;
+        return Err(Unowned::NoGround);
     }
     if !table_spread::spread(opposite, counts, &touched[..n], labels, group) {
-        return Judging::NotCarried;
+        return Err(Unowned::NotCarried);
     }
-    Judging::Carried
+    Ok(())
 }

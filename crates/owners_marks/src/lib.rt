@@ -44,9 +44,7 @@ pub fn mark(labels: &[bool], k: u32, sets: &mut [u64])
     requires { (length labels.now ≡ length sets.old) × (k < 64) × All (λ x. x < 2 ^ k) sets.old }
     ensures { (sets.new ≡ marked k labels.now sets.old) × (length sets.new ≡ length sets.old) }
 {
-    let mut t: usize = 0;
-    while t < sets.len() {
-        sets[t] = with_mark(sets[t], k, labels[t]);
-        t += 1;
+    for (t, set) in sets.iter_mut().enumerate() {
+        *set = with_mark(*set, k, labels[t]);
     }
 }

@@ -1,38 +1,18 @@
--- How far held coordinates are apart; the length of an edge is at least 1 unless its ends are one point, as are those of no triangle with a double area above 0; it is
+-- The length of an edge is at least 1 unless its ends are one point, as are those of no triangle with a double area above 0; it is
 -- small where the coordinates are. Assumes nothing.
-use mathlib.Core.Path.{◌≡◌, refl, sym, ◌∙◌, ap, ap₂, subst}
+use mathlib.Core.Path.{◌≡◌, refl, ◌∙◌, ap, ap₂, subst}
 use mathlib.Core.List.{List, [], ◌∷◌, flat_map}
-use Prim.Native.Nat.{ℕ, zero, suc, ◌+◌, ◌-◌, ◌*◌, ◌≤◌}
+use Prim.Native.Nat.{ℕ, zero, suc, ◌+◌, ◌*◌, ◌≤◌}
 use native.Mathlib.Omega.{arith}
 use native.Mathlib.Nat.{mul-le-mul}
-use lib.IntN.{ℤ, pos, negsuc, neg_ℤ, nat_abs, ◌-ℤ◌, ◌*ℤ◌}
+use lib.IntN.{ℤ, pos, negsuc, nat_abs, ◌-ℤ◌, ◌*ℤ◌}
 use lib.Signed.{◌<ℤ◌, <ℤ_irrefl}
 use Rattle.whole.specs.Sums.{All}
-use Rattle.whole.proofs.Int.{up, down, is_add, is_neg}
 use Rattle.whole.specs.Polynomials.{con, ◌:-◌, ◌:*◌, ◌:=◌}
 use Rattle.whole.proofs.Ring.{solve}
 use Rattle.whole_root.proofs.OnlyRoot.{root_some, root_below}
 use Rattle.plane.specs.Points.{Point, Edge, ◌⟶◌, Triangle, turn, double}
-use Rattle.plane.specs.Corners.{millimetres}
 use Rattle.plane_lengths.specs.Lengths.{dx, dy, length_of, lengths_of}
-
--- ---- held coordinates
-shift : (u v : ℕ) → pos v -ℤ pos u ≡ millimetres v -ℤ millimetres u
-shift u v = solve 3 (λ u v k. v :- u := (v :- k) :- (u :- k)) tt (pos u) (pos v) (pos 10_000_000)
-
-pub apart_up : (u v : ℕ) → u ≤ v → nat_abs (millimetres v -ℤ millimetres u) ≡ v - u
-apart_up u v h = ap nat_abs (sym (shift u v)) ∙ go (pos v -ℤ pos u) (is_add (pos v) (neg_ℤ (pos u)) v 0 0 u refl (is_neg (pos u) u 0 refl))
-  where
-    go : (z : ℤ) → up z + (0 + u) ≡ v + 0 + down z → nat_abs z ≡ v - u
-    go (pos a) e = omega arith
-    go (negsuc a) e = omega arith
-
-pub apart_down : (u v : ℕ) → v ≤ u → nat_abs (millimetres v -ℤ millimetres u) ≡ u - v
-apart_down u v h = ap nat_abs (sym (shift u v)) ∙ go (pos v -ℤ pos u) (is_add (pos v) (neg_ℤ (pos u)) v 0 0 u refl (is_neg (pos u) u 0 refl))
-  where
-    go : (z : ℤ) → up z + (0 + u) ≡ v + 0 + down z → nat_abs z ≡ u - v
-    go (pos a) e = omega arith
-    go (negsuc a) e = omega arith
 
 -- ---- how long an edge is at most, and at least
 pub square_most : (d m : ℕ) → d ≤ m → d * d ≤ m * m

@@ -14,10 +14,7 @@ fn apart(u: u32, v: u32) -> u64
     requires { Held u × Held v }
     ensures { (result ≡ nat_abs (millimetres v -ℤ millimetres u)) × (result ≤ 20_000_000) }
 {
-    if u < v {
-        return (v - u) as u64;
-    }
-    (u - v) as u64
+    u64::from(u.abs_diff(v))
 }
 
 // The length of the edge from u to v: at most 28,284,271, the way across the largest frame.

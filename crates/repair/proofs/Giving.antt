@@ -2,64 +2,64 @@
 -- have t, and what is met with t is closed again, so that the triangles met since are the region of t. Assumes nothing.
 use mathlib.Core.Path.{◌≡◌, refl, sym, ◌∙◌, ap, subst}
 use mathlib.Core.Logic.{◌⊎◌, inl, inr}
-use mathlib.Core.Bool.{Bool, true, false, cond}
+use mathlib.Core.Bool.{Bool, true, false, cond, ◌&&◌}
 use mathlib.Core.List.{List, [], ◌∷◌, ◌++◌, map}
-use mathlib.Core.Option.{Option, none, some}
+use mathlib.Core.Option.{none, some, Option as Numbered}
 use Prim.Native.Nat.{ℕ, zero, suc, ◌+◌, ◌*◌, ◌/◌, ◌≤◌, ◌<◌}
 use native.Mathlib.Omega.{arith}
+use borrow.Author.Rules.{rules}
 use native.Mathlib.Decide.{ℕ_discrete, dec_le}
-use borrow.Author.Tests.{eqb-true, eqb-false, eq-eqb}
+use borrow.Author.Tests.{eqb-true, eqb-false, eq-eqb, le-leb, lt-leb}
 use lib.Dec.{eqb}
 use lib.ListN.{length, get_or, take, replicate, length-map, length-replicate, length-append}
 use lib.Seq.{ext_get_or, take_at, length-take-le}
+use Rattle.std.specs.Prelude.{Option, None, Some, Result, Ok, Err}
+use Rattle.std.specs.List.{list_all, position, position_from}
+use Rattle.std.proofs.lemmas.Iterator.Adapters.{position_from-zero}
+use Rattle.std.proofs.Math.Numerals.{add-one}
 use Rattle.whole.specs.Sums.{every}
+use Rattle.lent.specs.declared.Reason.TheVariants.{NoOwner, Ungiven, Way}
+use Rattle.lent.specs.declared.Refusal.{Refusal}
 use Rattle.lent.specs.Stages.{value, refused}
 use Rattle.table.specs.Table.{first_fault}
-use Rattle.table.specs.Sides.{item_of}
 use Rattle.owners_marks.specs.Sets.{owners_of}
 use Rattle.repair_regions.specs.Regions.{gap, region, Joined, self, step}
 use Rattle.repair_regions.specs.Spreading.{Paired, marked, Meeting, Grown, Fresh, Spread}
 use Rattle.repair_regions.proofs.Regions.{length_map_from, map_from_at, joined_sym, region_has, region_same, not_both, failed}
 use Rattle.repair_regions.proofs.Spreading.{in_region}
-use Rattle.repair_choices.specs.Choices.{Choice, greater, across, largest}
+use Rattle.repair_choices.specs.Choices.{Choice, greater, across, largest, choice_by}
 use Rattle.repair_choices.specs.Choosing.{FoundAcross}
 use Rattle.repair_choices.specs.Adding.{Marked}
 use Rattle.repair_choices.proofs.Lists.{greater_left, greater_right, greater_one}
 use Rattle.repair_choices.proofs.Largest.{largest_above, largest_found}
-use Rattle.repair.specs.declared.Repaired.TheVariants.{Done, Refused}
 use Rattle.repair.specs.Repair.{settled, owner_of, numbers_given, ungiven, repaired}
-use Rattle.repair.specs.Giving.{Best, Filled, State, Further, owners_left, RepairedTo}
-use Rattle.repair.proofs.Filling.{one_further}
-use Rattle.repair.proofs.OneOwner.{length_settled, every_zero, every_not, NoZero, FirstZero, zero_from, same_first, answer, repaired_by}
+use Rattle.repair.specs.Giving.{Best, Filled, State, numbered, owners_left, RepairedTo, RepairedBy}
+use Rattle.repair.proofs.OneOwner.{length_settled, answer, repaired_by}
 
 -- ---- no owner at all
--- All are 0,
-pub all_zero : (l : List ℕ) → ((i : ℕ) → i < length l → get_or l i 0 ≡ 0) → every (eqb 0) l ≡ true
-all_zero l h = go (every (eqb 0) l) refl
+none_owned : (l : List ℕ) → list_all (λ k. eqb k 0) l ≡ every (eqb 0) l
+none_owned [] = refl
+none_owned (x ∷ l) = rw zero_either (go (eqb 0 x) (none_owned l))
   where
-    go : (b : Bool) → every (eqb 0) l ≡ b → b ≡ true
+    zero_either : eqb x 0 ≡ eqb 0 x
+    zero_either = search rules
+
+    go : (b : Bool) → list_all (λ k. eqb k 0) l ≡ every (eqb 0) l → (b && list_all (λ k. eqb k 0) l) ≡ elim b [ true ↦ every (eqb 0) l | false ↦ false ]
+    go true e = e
+    go false e = refl
+
+-- The first 0 is the first that nobody can be given.
+first_from : (before l : List ℕ) → numbered (position_from (λ k. eqb k 0) (length before) l) ≡ first_fault ungiven before l
+first_from before [] = refl
+first_from before (x ∷ l) = go (eqb x 0) (first_from (x ∷ before) l)
+  where
+    go : (b : Bool) → numbered (position_from (λ k. eqb k 0) (suc (length before)) l) ≡ first_fault ungiven (x ∷ before) l
+        → numbered (cond b (Some (length before)) (position_from (λ k. eqb k 0) (length before + 1) l)) ≡ elim b [ true ↦ some (suc (length before)) | false ↦ first_fault ungiven (x ∷ before) l ]
     go true e = refl
-    go false e = let v = every_not l e in absurd (v.2 (h v.0 v.1))
+    go false e = rw add-one e
 
--- or one is not.
-pub one_not_zero : (l : List ℕ) (i : ℕ) → (get_or l i 0 ≡ 0 → ⊥) → every (eqb 0) l ≡ false
-one_not_zero l i h = failed (every (eqb 0) l) (λ e. h (every_zero l e i))
-
--- The first 0 stands at a place where it is 0 and none before it is,
-pub zero_found : (l : List ℕ) (t : ℕ) → t < length l → get_or l t 0 ≡ 0 → NoZero l t → t + 1 ≡ item_of (first_fault ungiven [] l)
-zero_found l t w z h = go (first_fault ungiven [] l) (zero_from [] l)
-  where
-    go : (r : Option ℕ) → FirstZero 0 l r → t + 1 ≡ item_of r
-    go none f = absurd (f t w z)
-    go (some n) (i, p, v, y, f) = omega (arith, same_first (λ u. get_or l u 0 ≡ 0) t i z y h f)
-
--- and there is none where none is.
-pub zero_nowhere : (l : List ℕ) → NoZero l (length l) → 0 ≡ item_of (first_fault ungiven [] l)
-zero_nowhere l h = go (first_fault ungiven [] l) (zero_from [] l)
-  where
-    go : (r : Option ℕ) → FirstZero 0 l r → 0 ≡ item_of r
-    go none f = refl
-    go (some n) (i, p, v, y, f) = absurd (h i v y)
+pub first_zero : (l : List ℕ) → numbered (position (λ k. eqb k 0) l) ≡ first_fault ungiven [] l
+first_zero l = ap numbered (position_from-zero (λ k. eqb k 0) l) ∙ first_from [] l
 
 -- ---- the largest number across the sides of a group
 -- What holds of two numbers holds of the greater.
@@ -69,9 +69,6 @@ of_greater P m n p q = go (greater_one m n)
     go : (greater m n ≡ m) ⊎ (greater m n ≡ n) → P (greater m n)
     go (inl e) = subst P (sym e) p
     go (inr e) = subst P (sym e) q
-
-pub best_none : (opposite numbers group : List ℕ) (first : ℕ) → Best opposite numbers group first first 0
-best_none opposite numbers group first = record { above = λ j k p q. absurd (omega arith); found = inl refl }
 
 -- The greatest of the numbers across the sides of triangle u and one at hand.
 abbrev with_sides : List ℕ → List ℕ → ℕ → ℕ → ℕ
@@ -130,8 +127,13 @@ best_one {opposite} {numbers} {group} {first} {i} {r} b f = record {
     above_all j k p q e (yes s) = sides k (e ∙ ap (λ l. get_or group l 0) s) (ℕ_discrete k (3 * u)) (ℕ_discrete k (3 * u + 1))
     above_all j k p q e (no s) = omega (arith, b.above j k p (omega arith) e, most.0)
 
-pub best_to : {opposite numbers group : List ℕ} {first i n r : ℕ} → i ≡ n → Best opposite numbers group first i r → Best opposite numbers group first n r
-best_to {opposite} {numbers} {group} {first} {i} {n} {r} e b = subst (λ x. Best opposite numbers group first x r) e b
+-- (The triangle u at place i from `first` on.)
+pub best_next : {opposite numbers group : List ℕ} {first : ℕ} (i : ℕ) {u r r' : ℕ} → Best opposite numbers group first (first + i) r → u ≡ get_or group (first + i) 0
+    → r' ≡ with_sides opposite numbers u r → Best opposite numbers group first (first + (i + 1)) r'
+best_next {opposite} {numbers} {group} {first} i {u} {r} {r'} b e f =
+    let n : first + i + 1 ≡ first + (i + 1) = omega arith in
+    let m : with_sides opposite numbers (get_or group (first + i) 0) r ≡ r' = sym (f ∙ ap (λ u. with_sides opposite numbers u r) e) in
+    subst (λ x. Best opposite numbers group first x r') n (subst (λ x. Best opposite numbers group first (first + i + 1) x) m (best_one b (omega arith)))
 
 -- The largest number across the sides of the triangles of a group is that of their marks.
 pub best_largest : {opposite numbers group : List ℕ} {first n r : ℕ} {marks : List Bool} → length opposite ≡ 3 * length numbers → ((j : ℕ) → j < n → get_or group j 0 < length numbers)
@@ -247,9 +249,6 @@ none_given choice opposite numbers {met} {group} {owners} e r o = record {
 abbrev pub MetTo : List ℕ → List Bool → ℕ → Type 0
 MetTo numbers met t = (u : ℕ) → u < t → get_or numbers u 0 ≡ 0 → get_or met u false ≡ true
 
-pub met_next : {numbers : List ℕ} {met met' : List Bool} {t : ℕ} → MetTo numbers met t → Further numbers met met' t → MetTo numbers met' (t + 1)
-met_next {numbers} {met} {met'} {t} m f = one_further (λ u. get_or numbers u 0 ≡ 0 → get_or met' u false ≡ true) t (λ u h z. f.still u (m u h z)) f.there
-
 -- With all gaps met, each triangle has its owner after repair.
 pub all_given : {choice : Choice} {opposite numbers : List ℕ} {met : List Bool} {group : List ℕ} {n : ℕ} {owners : List ℕ} → State choice opposite numbers met group n owners
     → MetTo numbers met (length numbers) → owners ≡ numbers_given choice opposite numbers
@@ -270,7 +269,7 @@ module _ (sets l rest : List ℕ) (s : l ≡ settled (map owners_of sets)) where
   length_laid : length l ≡ length sets
   length_laid = ap length s ∙ length_settled (map owners_of sets) ∙ length-map sets owners_of
 
-  pub laid_room : length sets ≤ length (l ++ rest)
+  laid_room : length sets ≤ length (l ++ rest)
   laid_room = omega (arith, length-append l rest, length_laid)
 
   pub laid_front : take (length sets) (l ++ rest) ≡ settled (map owners_of sets)
@@ -288,15 +287,15 @@ unmarked_front (suc n) (suc m) h = ap (λ l. false ∷ l) (unmarked_front n m (o
 -- What repair comes to where the settled numbers are these.
 module _ (choice : Choice) (opposite : List ℕ) (owners : List (List ℕ)) {numbers : List ℕ} (s : numbers ≡ settled owners) where
   -- Where all are 0, it is refused with 30 and leaves the lent list.
-  pub nobody_owns : {lent : List ℕ} → every (eqb 0) numbers ≡ true → RepairedTo choice opposite owners lent (Refused 30 0) lent
+  pub nobody_owns : {lent : List ℕ} → list_all (λ k. eqb k 0) numbers ≡ true → RepairedTo choice opposite owners lent (Err (record { reason = NoOwner; item = 0 })) lent
   nobody_owns {lent} e =
-      let f = ap (every (eqb 0)) (sym s) ∙ e in
+      let f = ap (every (eqb 0)) (sym s) ∙ sym (none_owned numbers) ∙ e in
       record { answer = sym (repaired_by choice opposite owners f refl); left = sym (ap (λ b. cond b lent (numbers_given choice opposite (settled owners))) f) }
 
-  -- Else it leaves the numbers given, of which t is the place of the first 0,
-  module _ {given : List ℕ} (e : every (eqb 0) numbers ≡ false) (g : given ≡ numbers_given choice opposite numbers) {t : ℕ} (first : t ≡ item_of (first_fault ungiven [] given)) where
+  -- Else it leaves the numbers given,
+  module _ {given : List ℕ} (e : list_all (λ k. eqb k 0) numbers ≡ false) (g : given ≡ numbers_given choice opposite numbers) where
     some_owns : every (eqb 0) (settled owners) ≡ false
-    some_owns = ap (every (eqb 0)) (sym s) ∙ e
+    some_owns = ap (every (eqb 0)) (sym s) ∙ sym (none_owned numbers) ∙ e
 
     are : given ≡ numbers_given choice opposite (settled owners)
     are = g ∙ ap (numbers_given choice opposite) s
@@ -304,21 +303,25 @@ module _ (choice : Choice) (opposite : List ℕ) (owners : List (List ℕ)) {num
     are_left : (lent : List ℕ) → given ≡ owners_left choice opposite owners lent
     are_left lent = are ∙ sym (ap (λ b. cond b lent (numbers_given choice opposite (settled owners))) some_owns)
 
-    by_fault : (r : Option ℕ) → first_fault ungiven [] given ≡ r → repaired choice opposite owners ≡ answer choice opposite owners false r
+    by_fault : (r : Numbered ℕ) → first_fault ungiven [] given ≡ r → repaired choice opposite owners ≡ answer choice opposite owners false r
     by_fault r f = repaired_by choice opposite owners some_owns (ap (first_fault ungiven []) (sym are) ∙ f)
 
-    -- is refused with 31 and that place, where there is one,
-    pub not_all_given : {lent : List ℕ} → (t ≡ 0 → ⊥) → RepairedTo choice opposite owners lent (Refused 31 t) given
-    not_all_given {lent} n = go (first_fault ungiven [] given) refl
-      where
-        go : (r : Option ℕ) → first_fault ungiven [] given ≡ r → RepairedTo choice opposite owners lent (Refused 31 t) given
-        go none f = absurd (n (first ∙ ap item_of f))
-        go (some k) f = record { answer = ap (refused 31) (first ∙ ap item_of f) ∙ sym (by_fault (some k) f); left = are_left lent }
+    -- is refused with 31 and the first that nobody can be given, where there is one,
+    pub not_all_given : {lent : List ℕ} {t item : ℕ} {found : Option ℕ} → numbered found ≡ first_fault ungiven [] given → found ≡ Some t → item ≡ t + 1
+        → RepairedTo choice opposite owners lent (Err (record { reason = Ungiven; item = item })) given
+    not_all_given {lent} {t} {item} n f h =
+        let k : item ≡ suc t = omega arith in
+        record { answer = ap (refused 31) k ∙ sym (by_fault (some (suc t)) (sym n ∙ ap numbered f)); left = are_left lent }
 
     -- and is done where there is none.
-    pub all_are_given : {lent : List ℕ} → t ≡ 0 → RepairedTo choice opposite owners lent Done given
-    all_are_given {lent} z = go (first_fault ungiven [] given) refl (zero_from [] given)
-      where
-        go : (r : Option ℕ) → first_fault ungiven [] given ≡ r → FirstZero 0 given r → RepairedTo choice opposite owners lent Done given
-        go none f h = record { answer = ap value are ∙ sym (by_fault none f); left = are_left lent }
-        go (some k) f (i, p, w, y, h) = absurd (omega (arith, first, ap item_of f))
+    pub all_are_given : {lent : List ℕ} {found : Option ℕ} → numbered found ≡ first_fault ungiven [] given → found ≡ None → RepairedTo choice opposite owners lent (Ok tt) given
+    all_are_given {lent} n f = record { answer = ap value are ∙ sym (by_fault none (sym n ∙ ap numbered f)); left = are_left lent }
+
+-- The same in a way: an unknown one is refused, and a known one is repaired in.
+pub unknown_way : (way : ℕ) (lengths opposite : List ℕ) (owners : List (List ℕ)) (before : List ℕ) → 1 < way
+    → RepairedBy way lengths opposite owners before (Err (record { reason = Way; item = 0 })) before
+unknown_way way lengths opposite owners before h = record { answer = rw (lt-leb way 1 h); left = rw (lt-leb way 1 h) }
+
+pub known_way : (way : ℕ) (lengths opposite : List ℕ) (owners : List (List ℕ)) (before : List ℕ) (r : Result (Unit {0}) Refusal) (after : List ℕ) → way ≤ 1
+    → RepairedTo (choice_by way lengths opposite) opposite owners before r after → RepairedBy way lengths opposite owners before r after
+known_way way lengths opposite owners before r after h p = record { answer = rw (le-leb way 1 h) p.answer; left = rw (le-leb way 1 h) p.left }

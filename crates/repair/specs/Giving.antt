@@ -1,12 +1,13 @@
 -- What owners the gap triangles met are given, region by region, and the lent owner numbers after repair.
-use Rattle.std.specs.Prelude.{◌≡◌, ◌⊎◌, Bool, true, false, cond, List, ℕ, ◌/◌, ◌≤◌, ◌<◌, eqb, length, get_or}
+use Rattle.std.specs.Prelude.{Option, None, Some, Result, Ok, Err, suc, ◌≡◌, ◌⊎◌, Bool, true, false, cond, List, ℕ, ◌/◌, ◌≤◌, ◌<◌, eqb, length, get_or}
+use Rattle.std.proofs.Math.Option.{none, some, Option as Numbered}
 use Rattle.whole.specs.Sums.{every}
-use Rattle.lent.specs.Stages.{Answer, value, refused}
+use Rattle.lent.specs.declared.Refusal.{Refusal}
+use Rattle.lent.specs.Stages.{Answer, value}
+use Rattle.lent.specs.Refusals.{refused_as}
 use Rattle.repair_regions.specs.Regions.{region}
 use Rattle.repair_regions.specs.Spreading.{Meeting, Spread}
 use Rattle.repair_choices.specs.Choices.{Choice, beyond, known, choice_by}
-use Rattle.repair.specs.declared.Repaired.{Repaired}
-use Rattle.repair.specs.declared.Repaired.TheVariants.{Done, Refused}
 use Rattle.repair.specs.Repair.{settled, numbers_given, repaired}
 use Rattle.repair.specs.Ways.{repaired_by}
 
@@ -34,16 +35,21 @@ pub record Further (numbers : List ℕ) (met met' : List Bool) (t : ℕ) : Type 
   pub still : (u : ℕ) → get_or met u false ≡ true → get_or met' u false ≡ true
   pub there : get_or numbers t 0 ≡ 0 → get_or met' t false ≡ true
 
+-- A triangle that was found, counted from 0, by its number, counted from 1.
+abbrev pub numbered : Option ℕ → Numbered ℕ
+numbered None = none
+numbered (Some t) = some (suc t)
+
 -- What a call of repair answered, with the list that it left.
-abbrev pub repair_of : Repaired → List ℕ → Answer (List ℕ)
-repair_of Done owners = value owners
-repair_of (Refused code item) owners = refused code item
+abbrev pub repair_of : Result (Unit {0}) Refusal → List ℕ → Answer (List ℕ)
+repair_of (Ok _) owners = value owners
+repair_of (Err r) owners = refused_as r
 
 -- The lent owner numbers afterwards: as they were where no triangle has an owner; else the numbers given, 0 where nobody can be given the triangle.
 abbrev pub owners_left : Choice → List ℕ → List (List ℕ) → List ℕ → List ℕ
 owners_left choice opposite owners lent = cond (every (eqb 0) (settled owners)) lent (numbers_given choice opposite (settled owners))
 
-pub record RepairedTo (choice : Choice) (opposite : List ℕ) (owners : List (List ℕ)) (before : List ℕ) (r : Repaired) (after : List ℕ) : Type 0 where
+pub record RepairedTo (choice : Choice) (opposite : List ℕ) (owners : List (List ℕ)) (before : List ℕ) (r : Result (Unit {0}) Refusal) (after : List ℕ) : Type 0 where
   pub answer : repair_of r after ≡ repaired choice opposite owners
   pub left : after ≡ owners_left choice opposite owners before
 
@@ -51,6 +57,6 @@ pub record RepairedTo (choice : Choice) (opposite : List ℕ) (owners : List (Li
 abbrev pub owners_left_by : ℕ → List ℕ → List ℕ → List (List ℕ) → List ℕ → List ℕ
 owners_left_by way lengths opposite owners lent = cond (known way) (owners_left (choice_by way lengths opposite) opposite owners lent) lent
 
-pub record RepairedBy (way : ℕ) (lengths opposite : List ℕ) (owners : List (List ℕ)) (before : List ℕ) (r : Repaired) (after : List ℕ) : Type 0 where
+pub record RepairedBy (way : ℕ) (lengths opposite : List ℕ) (owners : List (List ℕ)) (before : List ℕ) (r : Result (Unit {0}) Refusal) (after : List ℕ) : Type 0 where
   pub answer : repair_of r after ≡ repaired_by way lengths opposite owners
   pub left : after ≡ owners_left_by way lengths opposite owners before

@@ -1,17 +1,18 @@
 // Repair: overlaps settled to their smallest owner number, and each gap region given to the number chosen for it.
 #![tactic(auto)]
 
-ghost use Rattle.std.specs.Prelude.{◌≡◌, Bool, false, List, [], map, ℕ, ◌*◌, ◌+◌, ◌≤◌, ◌<◌, eqb, length, get_or, replicate};
-ghost use Rattle.whole.specs.Sums.{All, every};
-ghost use Rattle.table.specs.Table.{first_fault};
-ghost use Rattle.table.specs.Sides.{item_of};
+ghost use Rattle.std.specs.Prelude.{◌≡◌, ◌==◌, Bool, false, List, map, IfSome, ℕ, ◌*◌, ◌+◌, ◌≤◌, ◌<◌, length, get_or, replicate};
+ghost use Rattle.std.specs.List.{list_all, position};
+ghost use Rattle.whole.specs.Sums.{All};
 ghost use Rattle.owners_marks.specs.Sets.{owners_of, standing_of};
 ghost use Rattle.repair_regions.specs.Spreading.{Paired};
 ghost use Rattle.repair_choices.specs.Choices.{greater, beyond, choice_by};
 ghost use Rattle.repair_choices.specs.Adding.{Marked};
 ghost use Rattle.repair_longest.specs.Held.{TableIn, lengths_held};
-ghost use Rattle.repair.specs.Repair.{settled_by, settled, numbers_given, ungiven};
+ghost use Rattle.repair.specs.Repair.{settled_by, settled, numbers_given};
 ghost use Rattle.repair.specs.Giving.{RepairedTo, RepairedBy, Best, Filled, State, Further};
+
+use lent::{Reason, Refusal};
 
 // The owner number of a triangle once the overlaps are settled; 0 for a gap.
 fn owner_of(set: u64) -> u8
@@ -19,8 +20,7 @@ fn owner_of(set: u64) -> u8
 {
     match owners_marks::standing_of(set) {
         owners_marks::Standing::Gap => 0,
-        owners_marks::Standing::Single(k) => k as u8,
-        owners_marks::Standing::Overlap(k) => k as u8,
+        owners_marks::Standing::Single(k) | owners_marks::Standing::Overlap(k) => k as u8,
     }
 }
 
@@ -29,10 +29,8 @@ fn settle(sets: &[u64], numbers: &mut [u8])
     requires { length sets.now ≡ length numbers.old }
     ensures { numbers.new ≡ settled (map owners_of sets.now) }
 {
-    let mut t: usize = 0;
-    while t < numbers.len() {
-        numbers[t] = owner_of(sets[t]);
-        t += 1;
+    for (t, set) in sets.iter().enumerate() {
+        numbers[t] = owner_of(*set);
     }
 }
 
@@ -45,11 +43,7 @@ fn with_side(opposite: &[usize], numbers: &[u8], k: usize, best: u8) -> u8
     if o == 0 {
         return best;
     }
-    let number = numbers[(o - 1) / 3];
-    if best <= number {
-        return number;
-    }
-    best
+    best.max(numbers[(o - 1) / 3])
 }
 
 // The triangles of the group from `first` on and before n are given to one owner.
@@ -57,10 +51,8 @@ fn fill(group: &[usize], first: usize, n: usize, owner: u8, owners: &mut [u8])
     requires { (first ≤ n) × (n ≤ length group.now) × ((j : ℕ) → j < n → get_or group.now j 0 < length owners.old) }
     ensures { Filled group.now first n owner owners.old owners.new }
 {
-    let mut i = first;
-    while i < n {
-        owners[group[i]] = owner;
-        i += 1;
+    for &u in &group[first..n] {
+        owners[u] = owner;
     }
 }
 
@@ -83,10 +75,8 @@ fn highest(opposite: &[usize], numbers: &[u8], group: &[usize], first: usize, n:
     ensures { Best opposite.now numbers.now group.now first n result }
 {
     let mut best: u8 = 0;
-    let mut i = first;
-    while i < n {
-        best = with_triangle(opposite, numbers, group[i], best);
-        i += 1;
+    for &u in &group[first..n] {
+        best = with_triangle(opposite, numbers, u, best);
     }
     best
 }
@@ -106,6 +96,7 @@ fn choose(
     ensures { (marks : List Bool) → Marked group.now first n marks
         → result ≡ choice_by way (lengths_held table.now (length opposite.now)) opposite.now numbers.now marks }
 {
+    // A switch: a way is asked for by its number, and a closure would only hand this test on.
     if way == 0 {
         return highest(opposite, numbers, group, first, n);
     }
@@ -156,51 +147,35 @@ fn give_all(
     ensures { owners.new ≡ numbers_given (choice_by way (lengths_held table.now (length opposite.now)) opposite.now) opposite.now numbers.now }
 {
     let mut n: usize = 0;
-    let mut t: usize = 0;
-    while t < numbers.len() {
+    for t in 0..numbers.len() {
         n = give(way, table, opposite, numbers, t, met, group, n, owners);
-        t += 1;
     }
 }
 
 // No triangle has an owner.
 fn none_owned(numbers: &[u8]) -> bool
-    ensures { result ≡ every (eqb 0) numbers.now }
+    ensures { result ≡ list_all (λ k. k == 0) numbers.now }
 {
-    let mut t: usize = 0;
-    while t < numbers.len() {
-        if numbers[t] != 0 {
-            return false;
-        }
-        t += 1;
-    }
-    true
+    numbers.iter().all(|k| *k == 0)
 }
 
-// The first triangle, counted from 1, that nobody could be given; 0 where there is none.
-fn first_ungiven(owners: &[u8]) -> usize
-    ensures { (result ≡ item_of (first_fault ungiven [] owners.now)) × (result ≤ length owners.now) }
+// The first triangle that nobody could be given.
+fn first_ungiven(owners: &[u8]) -> Option<usize>
+    ensures first { result ≡ position (λ k. k == 0) owners.now }
+    ensures within { IfSome result (λ t. t < length owners.now) }
 {
-    let mut t: usize = 0;
-    while t < owners.len() {
-        if owners[t] == 0 {
-            return t + 1;
-        }
-        t += 1;
-    }
-    0
-}
-
-// What repair comes to: it is done, or is refused with a code and an item.
-#[derive(Clone, Copy)]
-pub enum Repaired {
-    Done,
-    Refused(u32, u32),
+    owners.iter().position(|k| *k == 0)
 }
 
 // Repair in a way that is known: the owner number of each triangle, from the owner sets. 30 where no triangle has an owner, and the list is as it was; 31
 // with the first triangle that nobody can be given, and the list has the numbers given.
-fn in_way(way: u32, table: &[u32], opposite: &[usize], sets: &[u64], owners: &mut [u8]) -> Repaired
+fn in_way(
+    way: u32,
+    table: &[u32],
+    opposite: &[usize],
+    sets: &[u64],
+    owners: &mut [u8],
+) -> Result<(), Refusal>
     requires { Paired opposite.now (length sets.now) × (length owners.old ≡ length sets.now) × (length sets.now ≤ 1024) × TableIn table.now (length sets.now) }
     ensures { RepairedTo (choice_by way (lengths_held table.now (length opposite.now)) opposite.now) opposite.now (map owners_of sets.now) owners.old result owners.new }
 {
@@ -210,7 +185,10 @@ fn in_way(way: u32, table: &[u32], opposite: &[usize], sets: &[u64], owners: &mu
     let mut group = [0usize; 1024];
     settle(sets, &mut numbers[..n]);
     if none_owned(&numbers[..n]) {
-        return Repaired::Refused(30, 0);
+        return Err(Refusal {
+            reason: Reason::NoOwner,
+            item: 0,
+        });
     }
     settle(sets, owners);
     give_all(
@@ -222,11 +200,13 @@ fn in_way(way: u32, table: &[u32], opposite: &[usize], sets: &[u64], owners: &mu
         &mut group[..n],
         owners,
     );
-    let t = first_ungiven(owners);
-    if t != 0 {
-        return Repaired::Refused(31, t as u32);
+    match first_ungiven(owners) {
+        Some(t) => Err(Refusal {
+            reason: Reason::Ungiven,
+            item: t as u32 + 1,
+        }),
+        None => Ok(()),
     }
-    Repaired::Done
 }
 
 // Repair in a way, by the table's corners off the numbers form. 54 where the way is unknown, and the list is as it was.
@@ -236,12 +216,15 @@ pub fn repair(
     opposite: &[usize],
     sets: &[u64],
     owners: &mut [u8],
-) -> Repaired
+) -> Result<(), Refusal>
     requires { Paired opposite.now (length sets.now) × (length owners.old ≡ length sets.now) × (length sets.now ≤ 1024) × TableIn table.now (length sets.now) }
     ensures { RepairedBy way (lengths_held table.now (length opposite.now)) opposite.now (map owners_of sets.now) owners.old result owners.new }
 {
     if way > 1 {
-        return Repaired::Refused(54, 0);
+        return Err(Refusal {
+            reason: Reason::Way,
+            item: 0,
+        });
     }
     in_way(way, table, opposite, sets, owners)
 }

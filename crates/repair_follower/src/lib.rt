@@ -29,13 +29,11 @@ fn along_frame(opposite: &[usize], k: usize) -> usize
     ensures { (result ≡ along_frame opposite.now k) × (result < length opposite.now) }
 {
     let mut s = k;
-    let mut i: usize = 0;
-    while i < opposite.len() {
+    for _ in 0..opposite.len() {
         if opposite[s] == 0 {
             return s;
         }
         s = next_side(opposite[s] - 1);
-        i += 1;
     }
     s
 }
@@ -57,13 +55,11 @@ pub fn follower(opposite: &[usize], owners: &[u8], polygon: u8, k: usize) -> usi
     ensures { (result ≡ follower_of opposite.now owners.now polygon k) × (result < length opposite.now) }
 {
     let mut s = turned_to(opposite, k);
-    let mut i: usize = 0;
-    while i < opposite.len() {
+    for _ in 0..opposite.len() {
         if owners[s / 3] == polygon {
             return s;
         }
         s = turned_to(opposite, side_before(s));
-        i += 1;
     }
     s
 }

@@ -1,7 +1,7 @@
 -- Lengths off the held numbers: the length of side k is that of the edge of its two corners, and stands at place k of all lengths. Assumes nothing.
-use mathlib.Core.Path.{◌≡◌, refl, sym, ◌∙◌, ap, subst}
+use mathlib.Core.Path.{◌≡◌, refl, ◌∙◌, ap, subst}
 use mathlib.Core.List.{List, ◌∷◌}
-use Prim.Native.Nat.{ℕ, zero, suc, ◌+◌, ◌-◌, ◌*◌, ◌≤◌, ◌<◌}
+use Prim.Native.Nat.{ℕ, zero, suc, ◌+◌, ◌*◌, ◌≤◌, ◌<◌}
 use native.Mathlib.Omega.{arith}
 use lib.ListN.{length, get_or}
 use Rattle.repair_regions.proofs.Regions.{map_from_at}
@@ -20,12 +20,11 @@ pub length_met : (group : List ℕ) (first c : ℕ) → length (sides_met group 
 length_met group first zero = refl
 length_met group first (suc c) = omega (arith, length_met group first c)
 
--- With one triangle more.
-pub met_more : (group : List ℕ) (first i : ℕ) → first ≤ i → let u = get_or group i 0 in (3 * u + 2) ∷ (3 * u + 1) ∷ (3 * u) ∷ sides_met group first (i - first) ≡ sides_met group first (i + 1 - first)
-met_more group first i h =
-    let a : i + 1 - first ≡ suc (i - first) = omega arith in
-    let b : first + (i - first) ≡ i = omega arith in
-    sym (ap (sides_met group first) a ∙ ap (λ j. let u = get_or group j 0 in (3 * u + 2) ∷ (3 * u + 1) ∷ (3 * u) ∷ sides_met group first (i - first)) b)
+-- With one triangle more, u at place i from `first` on.
+pub met_more : (group : List ℕ) (first i u : ℕ) → u ≡ get_or group (first + i) 0 → (3 * u + 2) ∷ (3 * u + 1) ∷ (3 * u) ∷ sides_met group first i ≡ sides_met group first (i + 1)
+met_more group first i u e =
+    let z : suc i ≡ i + 1 = omega arith in
+    ap (λ u. (3 * u + 2) ∷ (3 * u + 1) ∷ (3 * u) ∷ sides_met group first i) e ∙ ap (sides_met group first) z
 
 pub adding_to : {lengths opposite numbers sides sides' sums : List ℕ} {best : ℕ} → sides ≡ sides' → Adding lengths opposite numbers sides sums best → Adding lengths opposite numbers sides' sums best
 adding_to {lengths} {opposite} {numbers} {sides} {sides'} {sums} {best} e is = subst (λ l. Adding lengths opposite numbers l sums best) e is

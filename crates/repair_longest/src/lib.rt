@@ -108,10 +108,8 @@ pub fn longest(
 {
     let mut sums = [0u64; 65];
     let mut best: usize = 0;
-    let mut i = first;
-    while i < n {
-        best = add_triangle(table, opposite, numbers, group[i], &mut sums, best);
-        i += 1;
+    for &u in &group[first..n] {
+        best = add_triangle(table, opposite, numbers, u, &mut sums, best);
     }
     best as u8
 }

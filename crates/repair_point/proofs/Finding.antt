@@ -1,11 +1,10 @@
 -- The triangle that a point belongs to, off the held numbers: it is found at the first place where the point belongs to the triangle there. Assumes nothing.
-use mathlib.Core.Path.{◌≡◌, refl, sym, ◌∙◌, ap, ap₂, subst}
+use mathlib.Core.Path.{◌≡◌, sym, ◌∙◌, ap, ap₂, subst}
 use mathlib.Core.Bool.{true, false}
-use mathlib.Core.List.{List, []}
+use mathlib.Core.List.{List}
 use mathlib.Core.Option.{Option, none, some}
-use Prim.Native.Nat.{ℕ, suc, ◌+◌, ◌-◌, ◌*◌, ◌≤◌, ◌<◌}
+use Prim.Native.Nat.{ℕ, suc, ◌+◌, ◌*◌, ◌<◌}
 use native.Mathlib.Omega.{arith}
-use native.Mathlib.Decide.{dec_le}
 use lib.IntN.{ℤ}
 use lib.ListN.{length, get_or}
 use mir.Syntax.{w32}
@@ -14,12 +13,9 @@ use mir.Facts.{to_z-of_z}
 use Rattle.plane.specs.Points.{Point, Triangle}
 use Rattle.plane.specs.Corners.{millimetres}
 use Rattle.plane_winding.specs.Winding.{belongs}
-use Rattle.lent.specs.Answered.{answer_of}
-use Rattle.table.specs.Sides.{item_of}
 use Rattle.table_points.specs.Points.{triangle_of}
-use Rattle.table_points.proofs.Points.{FirstAt, found_at_lem, found_nowhere}
+use Rattle.table_points.proofs.Points.{found_at_lem, found_nowhere}
 use Rattle.repair_regions.proofs.Regions.{map_from_at, length_map_from}
-use Rattle.repair_point.specs.Point.{owner_there}
 use Rattle.repair_point.specs.Held.{triangle_held, triangles_held}
 
 -- The point whose numbers are read back from their 32 bits is the point.
@@ -30,8 +26,8 @@ pub read_back : (x y : ℤ) → SFits w32 x → SFits w32 y → bits x y ≡ rec
 read_back x y h k = ap₂ (λ x y. record { x = x; y = y }) (to_z-of_z {w = w32} h) (to_z-of_z {w = w32} k)
 
 -- What was found for it was found for the point.
-pub found_point : (x y : ℤ) → SFits w32 x → SFits w32 y → (table : List ℕ) (n : ℕ) {r : ℕ} → r ≡ item_of (triangle_of (bits x y) (triangles_held table n)) → r ≡ item_of (triangle_of (record { x = x; y = y }) (triangles_held table n))
-found_point x y h k table n {r} e = subst (λ z. r ≡ item_of (triangle_of z (triangles_held table n))) (read_back x y h k) e
+pub found_point : (x y : ℤ) → SFits w32 x → SFits w32 y → (table : List ℕ) (n : ℕ) {r : Option ℕ} → r ≡ triangle_of (bits x y) (triangles_held table n) → r ≡ triangle_of (record { x = x; y = y }) (triangles_held table n)
+found_point x y h k table n {r} e = subst (λ z. r ≡ triangle_of z (triangles_held table n)) (read_back x y h k) e
 
 -- The six numbers of triangle t stand behind the first number and those of the triangles before it.
 abbrev pub six_from : List ℕ → ℕ → Triangle
@@ -60,33 +56,15 @@ module _ (z : Point) (table : List ℕ) where
   abbrev pub NoneBefore : ℕ → Type 0
   NoneBefore t = (u : ℕ) → u < t → belongs z (triangle_held table u) ≡ false
 
-  -- (and not to the next.)
-  pub one_more : (t : ℕ) → NoneBefore t → belongs z (triangle_held table t) ≡ false → NoneBefore (t + 1)
-  one_more t h e u w = go (dec_le (u + 1) t)
-    where
-      go : Dec (u + 1 ≤ t) → belongs z (triangle_held table u) ≡ false
-      go (yes y) = h u (omega arith)
-      go (no n) = let s : t ≡ u = omega arith in ap (λ u. belongs z (triangle_held table u)) (sym s) ∙ e
-
   place : (n u : ℕ) → u < n → belongs z (get_or (triangles_held table n) u (triangle_held table 0)) ≡ belongs z (triangle_held table u)
   place n u h = ap (belongs z) (map_from_at (triangle_held table) n u (triangle_held table 0) h)
 
   many : (n : ℕ) → length (triangles_held table n) ≡ n
   many n = length_map_from (triangle_held table) 0 n
 
-  pub found : (n t : ℕ) → t < n → belongs z (triangle_held table t) ≡ true → NoneBefore t → t + 1 ≡ item_of (triangle_of z (triangles_held table n))
+  pub found : (n t : ℕ) → t < n → belongs z (triangle_held table t) ≡ true → NoneBefore t → some (suc t) ≡ triangle_of z (triangles_held table n)
   found n t h e before =
-      let s : t + 1 ≡ suc t = omega arith in
-      s ∙ sym (ap item_of (found_at_lem z (triangle_held table 0) (triangles_held table n) t (omega (arith, many n)) (place n t h ∙ e) (λ u w. place n u (omega arith) ∙ before u w)))
+      sym (found_at_lem z (triangle_held table 0) (triangles_held table n) t (omega (arith, many n)) (place n t h ∙ e) (λ u w. place n u (omega arith) ∙ before u w))
 
-  pub nowhere : (n : ℕ) → NoneBefore n → 0 ≡ item_of (triangle_of z (triangles_held table n))
-  nowhere n before = sym (ap item_of (found_nowhere z (triangle_held table 0) (triangles_held table n) (λ u w. let h : u < n = omega (arith, many n) in place n u h ∙ before u h)))
-
--- What is answered at the point, by the number that was found: 55 for none, and the owner of the triangle of that number.
-pub not_there : (o : Option ℕ) (owners : List ℕ) (z : Point) (d : Triangle) (l : List Triangle) → FirstAt z d 0 l o → 0 ≡ item_of o → 55 ≡ answer_of (owner_there o owners) []
-not_there none owners z d l f e = refl
-not_there (some k) owners z d l f e = absurd (omega (arith, f.1))
-
-pub there : (o : Option ℕ) (owners : List ℕ) (t : ℕ) → t ≡ item_of o → (t ≡ 0 → ⊥) → get_or owners (t - 1) 0 * 256 ≡ answer_of (owner_there o owners) []
-there none owners t e f = absurd (f e)
-there (some k) owners t e f = ap (λ k. get_or owners (k - 1) 0 * 256) e
+  pub nowhere : (n : ℕ) → NoneBefore n → none ≡ triangle_of z (triangles_held table n)
+  nowhere n before = sym (found_nowhere z (triangle_held table 0) (triangles_held table n) (λ u w. let h : u < n = omega (arith, many n) in place n u h ∙ before u h))

@@ -80,6 +80,7 @@ fn spreads(
 {
     let mut n = start;
     let mut i = first;
+    // A while: the group grows as it is gone through.
     while i < n {
         let u = group[i];
         n = around(opposite, numbers, u, met, group, n);

@@ -22,17 +22,15 @@ fn walk(
         order.old taken.old result order.new taken.new }
 {
     let mut s = first;
-    let mut n = at;
-    while n < order.len() {
+    for n in at..order.len() {
         order[n] = s;
         taken[s] = true;
-        n += 1;
         s = repair_follower::follower(opposite, owners, polygon, s);
         if s == first {
-            return n;
+            return n + 1;
         }
     }
-    n
+    order.len()
 }
 
 // The rings of the boundary sides, each begun at the first side that no ring before it has. How many they are.
@@ -52,15 +50,12 @@ pub fn rings(
     let mut taken = [false; 3072];
     let mut n: usize = 0;
     let mut r: usize = 0;
-    let mut i: usize = 0;
-    while i < sides.len() {
-        let k = sides[i];
+    for &k in sides {
         if !taken[k] {
             n = walk(opposite, owners, polygon, k, order, n, &mut taken);
             ends[r] = n;
             r += 1;
         }
-        i += 1;
     }
     r
 }

@@ -7,10 +7,13 @@ ghost use Rattle.std.proofs.lemmas.List.Edits.{sets};
 ghost use Rattle.whole.specs.Sums.{All};
 ghost use Rattle.lent_little.specs.Held.{SideIn, side_held};
 ghost use Rattle.lent.specs.Answered.{Answered};
+ghost use Rattle.lent.specs.Told.{number_of};
 ghost use Rattle.owners_marks.specs.Sets.{owners_of};
 ghost use Rattle.repair_regions.specs.Spreading.{Paired};
 ghost use Rattle.repair_longest.specs.Held.{TableIn, lengths_held};
 ghost use Rattle.repair_answers.specs.Held.{sides_outcome};
+
+use lent::{Reason, Refusal};
 
 // Writes side k of the table, off the numbers form: the coordinates of corner k, then those of the next corner of its triangle.
 fn put_side(numbers: &[u32], k: usize, out: &mut [u8], at: usize)
@@ -30,10 +33,8 @@ fn write_sides(numbers: &[u32], sides: &[usize], out: &mut [u8])
     requires { All (SideIn numbers.now) sides.now × (16 * length sides.now ≤ length out.old) }
     ensures { out.new ≡ flat_map (side_held numbers.now) sides.now ++ drop (16 * length sides.now) out.old }
 {
-    let mut i: usize = 0;
-    while i < sides.len() {
-        put_side(numbers, sides[i], out, 16 * i);
-        i += 1;
+    for (i, k) in sides.iter().enumerate() {
+        put_side(numbers, *k, out, 16 * i);
     }
 }
 
@@ -46,22 +47,22 @@ pub fn boundary(
     sets: &[u64],
     polygon: u8,
     out: &mut [u8],
-) -> u64
+) -> Result<u32, Refusal>
     requires { Paired opposite.now (length sets.now) × (length sets.now ≤ 1024) × TableIn numbers.now (length sets.now) }
-    ensures { Answered (sides_outcome numbers.now way (lengths_held numbers.now (length opposite.now)) opposite.now (map owners_of sets.now) polygon) out.old result out.new }
+    ensures { Answered (sides_outcome numbers.now way (lengths_held numbers.now (length opposite.now)) opposite.now (map owners_of sets.now) polygon) out.old (number_of result) out.new }
 {
     let n = sets.len();
     let m = opposite.len();
     let mut owners = [0u8; 1024];
     let mut sides = [0usize; 3072];
-    let repaired = repair::repair(way, numbers, opposite, sets, &mut owners[..n]);
-    if let repair::Repaired::Refused(code, item) = repaired {
-        return item as u64 * 256 + code as u64;
-    }
+    repair::repair(way, numbers, opposite, sets, &mut owners[..n])?;
     let k = repair_sides::boundary(opposite, &owners[..n], polygon, &mut sides[..m]);
     if out.len() / 16 < k {
-        return 40;
+        return Err(Refusal {
+            reason: Reason::Room,
+            item: 0,
+        });
     }
     write_sides(numbers, &sides[..k], out);
-    k as u64 * 256
+    Ok(k as u32)
 }

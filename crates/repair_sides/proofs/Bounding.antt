@@ -21,7 +21,7 @@ use Rattle.whole.proofs.Ring.{solve}
 use Rattle.plane.specs.Points.{Edge, Triangle, flip, same_edge, double, cross}
 use Rattle.plane.specs.Cuts.{all_pieces}
 use Rattle.plane.specs.Boundaries.{boundary, SameBoundary, sides_of}
-use Rattle.plane.specs.Members.{edges, double_area}
+use Rattle.plane.specs.Members.{double_area}
 use Rattle.plane.proofs.Points.{same_edge-eq}
 use Rattle.plane.proofs.Boundaries.{areas, cross_flip, cross_adds}
 use Rattle.plane.proofs.Cuts.{pieces_sum}

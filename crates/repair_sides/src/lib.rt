@@ -26,13 +26,11 @@ pub fn boundary(opposite: &[usize], owners: &[u8], polygon: u8, sides: &mut [usi
     ensures { LaidDown (boundary_numbers opposite.now owners.now polygon) sides.old result sides.new }
 {
     let mut n: usize = 0;
-    let mut k: usize = 0;
-    while k < opposite.len() {
+    for k in 0..opposite.len() {
         if is_bound(opposite, owners, polygon, k) {
             sides[n] = k;
             n += 1;
         }
-        k += 1;
     }
     n
 }

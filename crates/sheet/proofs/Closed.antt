@@ -4,6 +4,7 @@
 use mathlib.Core.Path.{◌≡◌, refl, sym, ◌∙◌, ap₂, subst}
 use mathlib.Core.Bool.{Bool, true, ◌&&◌, and-eq-true_iff}
 use mathlib.Core.List.{List}
+use Rattle.std.specs.Prelude.{Ok}
 use Prim.Native.Nat.{ℕ, zero, suc, ◌+◌, ◌-◌, ◌<◌}
 use native.Mathlib.Omega.{arith}
 use borrow.Author.Tests.{leb-true, eqb-true}
@@ -14,17 +15,16 @@ use Rattle.wkb.specs.declared.Step.{Step}
 use Rattle.wkb.specs.declared.Step.TheVariants.{Geometry, Ring, Point, End, Refused}
 use Rattle.wkb.specs.Places.{moved, points_to_come, polygon_to_come}
 use Rattle.wkb.specs.Steps.{complete, renewed, ring_fits, with_points, after_point, step_at}
-use Rattle.wkb.proofs.Cases.{named_some, by_case}
+use Rattle.wkb.proofs.Cases.{by_case}
 use Rattle.wkb.proofs.Complete.{not_complete}
 use Rattle.sheet.specs.declared.Build.{Build}
-use Rattle.sheet.specs.declared.Turn.{Turn}
-use Rattle.sheet.specs.declared.Turn.TheVariants.{On, Over}
+use Rattle.sheet.specs.declared.Reached.{Reached}
 use Rattle.sheet.specs.Going.{Leads}
 use Rattle.sheet.specs.Behind.{counts, closed}
 use Rattle.sheet.specs.Rings.{Nearer}
 use Rattle.sheet.proofs.Counts.{same_renewed}
 use Rattle.sheet.proofs.Rows.{renewed_stays}
-use Rattle.sheet.proofs.Onward.{Goes, is_refused}
+use Rattle.sheet.proofs.Onward.{Goes}
 
 pub nearer : (c d e : Cursor) → 0 < d.rings + d.points → Nearer c d → Nearer d e → Nearer c e
 nearer c d e l h k = (λ o. k.0 o ∙ h.0 l, λ z. k.1 z ∙ h.0 l)
@@ -34,7 +34,7 @@ Inside c (Geometry kind n d) = ⊥
 Inside c (Ring n d) = Nearer c d
 Inside c (Point x y d) = Nearer c d
 Inside c (End d) = ⊥
-Inside c (Refused code item field d) = code ≡ 0 → ⊥
+Inside c (Refused reason item field d) = Unit {0}
 
 -- ---- a ring's count
 pub ring_some : (c : Cursor) (n : ℕ) → ring_fits c n ≡ true → 0 < n
@@ -76,31 +76,31 @@ point_nearer c l = go (c.rings + (c.points - 1)) refl
 -- ---- a step
 pub step_inside : (s : List ℕ) (c : Cursor) → 0 < c.rings + c.points → Inside c (step_at s c)
 step_inside s c o = by_case (Inside c) s c (record {
-  refused = λ code field t f. named_some code t;
+  refused = λ reason field t f. tt;
   point = λ p l. point_nearer c p;
   ring = λ p r l n f. ring_nearer c n (ring_some c n f);
   end = λ due. absurd (omega (arith, due.0, due.1));
   geometry = λ p r t l little kind n k f. omega arith;
 })
 
--- Where the code goes on from there, and where it is over.
-module _ (s : List ℕ) (c : Cursor) (b : Build) (a : Step) (r : Turn) (o : 0 < c.rings + c.points) (e : a ≡ step_at s c) (h : Leads a b r) where
-  pub goes_nearer : (d : Cursor) (f : Build) → r ≡ On d f → Nearer c d
-  goes_nearer d f q = go (step_at s c) (step_inside s c o) (rw (← e, ← q) h)
+pub inside_goes : (s : List ℕ) (c : Cursor) → 0 < c.rings + c.points → Goes (step_at s c)
+inside_goes s c o = go (step_at s c) (step_inside s c o)
+  where
+    go : (a : Step) → Inside c a → Goes a
+    go (Geometry kind n x) k = absurd k
+    go (Ring n x) k = tt
+    go (Point x y z) k = tt
+    go (End x) k = absurd k
+    go (Refused reason item field x) k = tt
+
+-- Where the code goes on from there.
+module _ (s : List ℕ) (c : Cursor) (b : Build) (a : Step) (o : 0 < c.rings + c.points) (e : a ≡ step_at s c) where
+  pub goes_nearer : (q : Reached) → Leads a b (Ok q) → Nearer c q.place
+  goes_nearer q h = go (step_at s c) (step_inside s c o) (rw (← e) h)
     where
-      go : (a : Step) → Inside c a → Leads a b (On d f) → Nearer c d
+      go : (a : Step) → Inside c a → Leads a b (Ok q) → Nearer c q.place
       go (Geometry kind n x) k l = absurd k
       go (Ring n x) k l = subst (Nearer c) (sym l.0) k
-      go (Point p q x) k l = subst (Nearer c) (sym l.0) k
+      go (Point x y z) k l = subst (Nearer c) (sym l.0) k
       go (End x) k l = absurd k
-      go (Refused code item field x) k l = absurd l
-
-  pub stops_inside : (code item field : ℕ) → r ≡ Over code item field → code ≡ 0 → ⊥
-  stops_inside code item field q = is_refused (step_at s c) b code item field (go (step_at s c) (step_inside s c o)) (rw (← e, ← q) h)
-    where
-      go : (a : Step) → Inside c a → Goes a
-      go (Geometry kind n x) k = absurd k
-      go (Ring n x) k = tt
-      go (Point p q x) k = tt
-      go (End x) k = absurd k
-      go (Refused code item field x) k = k
+      go (Refused reason item field x) k l = absurd l

@@ -4,9 +4,13 @@
 use mathlib.Core.Path.{◌≡◌, refl, sym, ◌∙◌, ap}
 use mathlib.Core.Bool.{false, not, and-eq-true_iff}
 use mathlib.Core.List.{List}
+use Rattle.std.specs.Prelude.{Ok, Err}
+use Rattle.lent.specs.declared.Fault.{Fault}
+use Rattle.lent.specs.declared.Reason.TheVariants.{Behind}
+use Rattle.lent.specs.Refusals.{code_of}
 use Prim.Native.Nat.{ℕ, ◌≤◌}
 use native.Mathlib.Omega.{arith}
-use borrow.Author.Tests.{le-ltb, ltb-false, eqb-false, ne_eqb}
+use borrow.Author.Tests.{le-ltb, ltb-false, eqb-false}
 use lib.Dec.{ltb, eqb}
 use lib.ListN.{length}
 use Rattle.whole.proofs.Tests.{by_equal}
@@ -17,9 +21,8 @@ use Rattle.wkb.specs.declared.Step.TheVariants.{Geometry, Ring, Point, End, Refu
 use Rattle.wkb.specs.Steps.{start, slot_of, complete, end_at, step_at}
 use Rattle.wkb.proofs.Complete.{is_complete}
 use Rattle.sheet.specs.declared.Build.{Build}
-use Rattle.sheet.specs.declared.Ending.TheVariants.{Sheet, Refused as Refusal}
 use Rattle.sheet.specs.Reading.{Taken, Reading, on, over, nothing, ended, taken, turn, reading_of}
-use Rattle.sheet.specs.Going.{laid, Shows, Within, read_of, reading}
+use Rattle.sheet.specs.Going.{laid, fault_of, Shows, Within, ReadAs, reading}
 use Rattle.sheet.specs.Behind.{levels, Begins, Finished}
 use Rattle.sheet.proofs.Run.{reading_turns, reading_starts}
 use Rattle.sheet.proofs.Laid.{laid_none}
@@ -47,7 +50,7 @@ Last c (Geometry kind n d) = ⊥
 Last c (Ring n d) = ⊥
 Last c (Point x y d) = ⊥
 Last c (End d) = Unit {0}
-Last c (Refused code item field d) = (code ≡ 7) × (item ≡ 0) × (field ≡ c.at)
+Last c (Refused reason item field d) = (reason ≡ Behind) × (item ≡ 0) × (field ≡ c.at)
 
 pub last_step : (s : List ℕ) (c : Cursor) → Finished c → c.at ≤ length s → Last c (step_at s c)
 unfolding step_at end_at
@@ -69,7 +72,7 @@ last_ends s c u l = reading_turns s c u ∙ go (step_at s c) l
     go (Ring n d) l = absurd l
     go (Point x y d) l = absurd l
     go (End d) l = refl
-    go (Refused code item field d) l = refl
+    go (Refused reason item field d) l = refl
 
 -- ---- the end
 module _ (limit : ℕ) (s numbers : List ℕ) where
@@ -78,24 +81,22 @@ module _ (limit : ℕ) (s numbers : List ℕ) where
     comes_to : (u : Taken) × Shows numbers u b more × (reading_of limit s ≡ ended (step_at s c) u)
     comes_to = let w = h.leads nothing numbers (shown numbers) in (w.0, w.1, reading_starts limit s ∙ sym w.2 ∙ last_ends s c w.0 l)
 
-    pub ends_sheet : (d : Cursor) → step_at s c ≡ End d → (Sheet b.fill ≡ read_of (reading_of limit s)) × (more ≡ laid (reading_of limit s).numbers numbers)
+    pub ends_sheet : (d : Cursor) → step_at s c ≡ End d → ReadAs (reading_of limit s) (Ok b.fill) × (more ≡ laid (reading_of limit s).numbers numbers)
     ends_sheet d e =
         let w = comes_to in
         let q : reading_of limit s ≡ ended (End d) w.0 = w.2 ∙ ap (λ a. ended a w.0) e in
-        rw q (ap Sheet w.1.fill, w.1.laid_over)
+        rw q ((refl, w.1.fill), w.1.laid_over)
 
-    pub ends_seven : (field : ℕ) → field ≡ c.at → ((d : Cursor) → step_at s c ≡ End d → ⊥) → (Refusal 7 0 field ≡ read_of (reading_of limit s)) × (more ≡ laid (reading_of limit s).numbers numbers)
+    pub ends_seven : (field : ℕ) → field ≡ c.at → ((d : Cursor) → step_at s c ≡ End d → ⊥) → ReadAs (reading_of limit s) (Err (fault_of Behind 0 field)) × (more ≡ laid (reading_of limit s).numbers numbers)
     ends_seven field q f = let w = comes_to in rw w.2 (go (step_at s c) l f w.0 w.1.laid_over)
       where
-        go : (a : Step) → Last c a → ((d : Cursor) → a ≡ End d → ⊥) → (u : Taken) → more ≡ laid u.numbers numbers → (Refusal 7 0 field ≡ read_of (ended a u)) × (more ≡ laid u.numbers numbers)
+        go : (a : Step) → Last c a → ((d : Cursor) → a ≡ End d → ⊥) → (u : Taken) → more ≡ laid u.numbers numbers → ReadAs (ended a u) (Err (fault_of Behind 0 field)) × (more ≡ laid u.numbers numbers)
         go (Geometry kind n d) l f u k = absurd l
         go (Ring n d) l f u k = absurd l
         go (Point x y d) l f u k = absurd l
         go (End d) l f u k = absurd (f d refl)
-        go (Refused code item field d) l f u k = (rw (l.0, l.1, l.2, q), k)
+        go (Refused reason item field d) l f u k = ((ap code_of (sym l.0), sym l.1, q ∙ sym l.2), k)
 
   -- Reading that was over with a refusal.
-  pub ends_refused : (code item field : ℕ) (more : List ℕ) → (code ≡ 0 → ⊥) × Stops s (start limit) empty numbers code item field more → (Refusal code item field ≡ read_of (reading_of limit s)) × (more ≡ laid (reading_of limit s).numbers numbers)
-  ends_refused code item field more h =
-      let w = h.1.ends nothing numbers (shown numbers) in
-      rw (reading_starts limit s) (rw (ne_eqb (reading s (start limit) nothing).code 0 (λ z. h.0 (w.0 ∙ z))) (rw (w.0, w.1, w.2)), w.3)
+  pub ends_refused : (f : Fault) (more : List ℕ) → Stops s (start limit) empty numbers f more → ReadAs (reading_of limit s) (Err f) × (more ≡ laid (reading_of limit s).numbers numbers)
+  ends_refused f more h = let w = h.ends nothing numbers (shown numbers) in rw (reading_starts limit s) ((w.0, w.1, w.2), w.3)

@@ -9,9 +9,9 @@ use lib.Dec.{T, leb, ltb, eqb, leb→le, ltb→lt, nltb→le, eqb→eq, T_not, n
 use lib.ListN.{length, set, length-set}
 use Rattle.whole.proofs.Tests.{by_cond, by_test}
 use Rattle.sheet_coordinate.specs.Coordinate.{coordinate_of}
-use Rattle.sheet_coordinate.specs.declared.Coordinate.{Coordinate}
-use Rattle.sheet_coordinate.specs.declared.Coordinate.TheVariants.{Whole, Not}
+use Rattle.std.specs.Prelude.{Option, Some, None}
 use Rattle.whole.proofs.Sums.{and_left, and_right, and_both}
+use Rattle.lent.proofs.Refusals.{no_success}
 use Rattle.wkb.specs.declared.Cursor.{Cursor}
 use Rattle.wkb_kinds.specs.declared.Slot.{Slot}
 use Rattle.wkb_kinds.specs.declared.Slot.TheVariants.{Sheet, Table, Piece, Part, Member}
@@ -19,7 +19,7 @@ use Rattle.wkb.specs.declared.Step.{Step}
 use Rattle.lent_little.specs.Ordered.{double_at}
 use Rattle.wkb.specs.Steps.{start, slot_of, complete, count_fits, popped, with_rings, with_parts, with_sheet, fewer_parts, opened, after_point}
 use Rattle.wkb.proofs.Steps.{pops, members_opened}
-use Rattle.wkb.proofs.Cases.{passed, named_some, by_case}
+use Rattle.wkb.proofs.Cases.{passed, by_case}
 use Rattle.sheet.specs.Reading.{Taken, Reading, Turn, on, over, held, begin, polygon, opening, noted, judged, taken, turn, run, reading_of, nothing}
 use Rattle.sheet.proofs.Sized.{same, other, is_yes, is_no, sheet, first, table, after, Sized, at_most, one_more, point_sized, ring_sized}
 
@@ -154,17 +154,17 @@ module _ {limit : ℕ} (s : List ℕ) (c : Cursor) (b : Taken) (h : Sized limit 
   turn_good : Good limit (turn s c b)
   unfolding turn taken judged
   turn_good = by_case (Led limit c b) s c (record {
-    refused = λ code field t f e. absurd (named_some code t e);
+    refused = λ reason field t f e. absurd (no_success reason e);
     point = λ p l. go p (coordinate_of (double_at c.little s c.at)) (coordinate_of (double_at c.little s (c.at + 8)));
     ring = λ p r l n f. ring_sized c n b p r (passed f) h;
     end = λ due. (λ l e. at_most c (length b.numbers) due.1 h, λ l e. absurd (omega arith));
     geometry = λ p r t l little kind n k f. opened_sized c little kind n p r (slot_of c) b (slot_at_lem c) (passed (ap not t)) (passed f) h;
   })
     where
-      go : 0 < c.points → (x y : Coordinate) → Good limit (judged c (after_point c) b x y)
-      go p Not y = λ e. absurd (omega arith)
-      go p (Whole x) Not = λ e. absurd (omega arith)
-      go p (Whole x) (Whole y) =
+      go : 0 < c.points → (x y : Option ℕ) → Good limit (judged c (after_point c) b x y)
+      go p None y = λ e. absurd (omega arith)
+      go p (Some x) None = λ e. absurd (omega arith)
+      go p (Some x) (Some y) =
           by_cond (Good limit) (eqb c.points 1 && not (eqb x (noted x y b).x && eqb y (noted x y b).y)) _ _ (λ t e. absurd (omega arith)) (point_sized c x y b p h)
 
 -- ---- reading

@@ -14,3 +14,4 @@ pub mod Sized
 pub mod Fit
 pub mod Paid
 pub mod Refusals
+pub mod Answered

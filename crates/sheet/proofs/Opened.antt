@@ -4,6 +4,8 @@
 use mathlib.Core.Path.{◌≡◌, refl, sym, ◌∙◌, ap, ap₂, subst}
 use mathlib.Core.Bool.{Bool, true, false, true≢false}
 use mathlib.Core.List.{List}
+use Rattle.std.specs.Prelude.{Result, Ok, Err}
+use Rattle.lent.specs.declared.Fault.{Fault}
 use Prim.Native.Nat.{ℕ, zero, suc, ◌+◌, ◌-◌, ◌≤◌, ◌<◌}
 use native.Mathlib.Omega.{arith}
 use borrow.Author.Tests.{ltb-true, ltb-false, lt-ltb, le-ltb}
@@ -17,12 +19,11 @@ use Rattle.wkb.specs.declared.Step.TheVariants.{Geometry, Ring, Point, End, Refu
 use Rattle.wkb.specs.Places.{moved, naming, header_to_come, second_to_come, third_to_come, fourth_to_come, parts_to_come, polygon_to_come}
 use Rattle.wkb.specs.Steps.{slot_of, renewed, kind_fault, count_fits, popped, fewer_parts, with_sheet, with_parts, with_members, with_rings, opened, step_at}
 use Rattle.wkb.proofs.Steps.{pops, count_some, popped_own, popped_fourth, popped_third, popped_second}
-use Rattle.wkb.proofs.Cases.{named_some, by_case}
+use Rattle.wkb.proofs.Cases.{by_case}
 use Rattle.wkb.proofs.Complete.{not_complete}
 use Rattle.wkb.proofs.Allowed.{allowed_member, polygon, parts, members}
 use Rattle.sheet.specs.declared.Build.{Build}
-use Rattle.sheet.specs.declared.Turn.{Turn}
-use Rattle.sheet.specs.declared.Turn.TheVariants.{On, Over}
+use Rattle.sheet.specs.declared.Reached.{Reached}
 use Rattle.sheet.specs.Going.{Leads}
 use Rattle.sheet.specs.Behind.{counts, closed, behind, behind_all, levels_at, levels, Begins, Row, After, To, Past}
 use Rattle.sheet.proofs.Onward.{Goes}
@@ -30,17 +31,17 @@ use Rattle.sheet.proofs.Counts.{same_renewed, same_finished}
 use Rattle.sheet.proofs.Rows.{behind_part, behind_other, row, behind_row, Own, own_row, own_finished}
 
 -- ---- the step
--- A header that is let through opens its geometry; a refusal has a code.
+-- A header that is let through opens its geometry.
 abbrev pub Opens : Cursor → Step → Type 0
 Opens c (Geometry kind n d) = (little : Bool) × (d ≡ opened (slot_of c) c little kind n) × (kind_fault (slot_of c) c kind ≡ 0) × (count_fits c.limit (slot_of c) n ≡ true)
 Opens c (Ring n d) = ⊥
 Opens c (Point x y d) = ⊥
 Opens c (End d) = ⊥
-Opens c (Refused code item field d) = code ≡ 0 → ⊥
+Opens c (Refused reason item field d) = Unit {0}
 
 pub step_opens : (s : List ℕ) (depth : ℕ) (c : Cursor) → Begins depth c → Opens c (step_at s c)
 step_opens s depth c h = by_case (Opens c) s c (record {
-  refused = λ code field t f. named_some code t;
+  refused = λ reason field t f. tt;
   point = λ p l. let z = h.no_points in omega arith;
   ring = λ p r l n f. let z = h.no_rings in omega arith;
   end = λ due. absurd (true≢false (sym due.2 ∙ h.more));
@@ -242,41 +243,41 @@ step_holds s depth c kind n d h e =
     let o = subst (Opens c) e (step_opens s depth c h) in
     subst (Holds depth c n) (sym o.1) (holds depth c h o.0 kind n (count_some c.limit (slot_of c) n o.3) (slot_of c) (where_is c) h.deep o.2)
 
--- ---- the code's turn after such a step
+-- ---- what the code comes to after such a step
 opens_goes : (c : Cursor) (a : Step) → Opens c a → Goes a
 opens_goes c (Geometry kind n d) o = tt
 opens_goes c (Ring n d) o = absurd o
 opens_goes c (Point x y d) o = absurd o
 opens_goes c (End d) o = absurd o
-opens_goes c (Refused code item field d) o = o
+opens_goes c (Refused reason item field d) o = tt
 
 pub stands_goes : (s : List ℕ) (depth : ℕ) (c : Cursor) → Begins depth c → Goes (step_at s c)
 stands_goes s depth c h = opens_goes c (step_at s c) (step_opens s depth c h)
 
-module _ (s : List ℕ) (depth : ℕ) (c : Cursor) (b : Build) (a : Step) (r : Turn) (e : a ≡ step_at s c) (l : Leads a b r) (h : Begins depth c) (d : Cursor) (f : Build) (q : r ≡ On d f) where
+module _ (s : List ℕ) (depth : ℕ) (c : Cursor) (b : Build) (a : Step) (e : a ≡ step_at s c) (h : Begins depth c) (q : Reached) (l : Leads a b (Ok q)) where
   -- It goes on from a geometry, which holds what its header says,
-  pub goes_held : (kind n : ℕ) (x : Cursor) → a ≡ Geometry kind n x → Holds depth c n d
+  pub goes_held : (kind n : ℕ) (x : Cursor) → a ≡ Geometry kind n x → Holds depth c n q.place
   goes_held kind n x g =
-      let k : Leads (Geometry kind n x) b (On d f) = subst (λ z. Leads z b (On d f)) g (subst (Leads a b) q l) in
+      let k : Leads (Geometry kind n x) b (Ok q) = subst (λ z. Leads z b (Ok q)) g l in
       subst (Holds depth c n) (sym k.0) (step_holds s depth c kind n x h (sym e ∙ g))
 
   -- and from no other answer.
   pub goes_nowhere : ((kind n : ℕ) (x : Cursor) → a ≡ Geometry kind n x → ⊥) → ⊥
-  goes_nowhere = go a (subst (Opens c) (sym e) (step_opens s depth c h)) (rw (← q) l)
+  goes_nowhere = go a (subst (Opens c) (sym e) (step_opens s depth c h)) l
     where
-      go : (a : Step) → Opens c a → Leads a b (On d f) → ((kind n : ℕ) (x : Cursor) → a ≡ Geometry kind n x → ⊥) → ⊥
+      go : (a : Step) → Opens c a → Leads a b (Ok q) → ((kind n : ℕ) (x : Cursor) → a ≡ Geometry kind n x → ⊥) → ⊥
       go (Geometry kind n x) o k t = t kind n x refl
       go (Ring n x) o k t = absurd o
       go (Point p y x) o k t = absurd o
       go (End x) o k t = absurd o
-      go (Refused code item field x) o k t = absurd k
+      go (Refused reason item field x) o k t = absurd k
 
--- Behind the polygon or the row that was opened at d, a turn is behind the geometry.
+-- Behind the polygon or the row that was opened at d, reading is behind the geometry.
 module _ {depth : ℕ} {c : Cursor} {n : ℕ} {d : Cursor} (h : Holds depth c n d) where
-  pub past_polygon : 0 < d.rings → (r : Turn) → To (closed d) r → Past c r
-  past_polygon l (On e b) k = h.polygon l e k
-  past_polygon l (Over code item field) k = tt
+  pub past_polygon : 0 < d.rings → (r : Result Reached Fault) → To (closed d) r → Past c r
+  past_polygon l (Ok q) k = h.polygon l q.place k
+  past_polygon l (Err f) k = tt
 
-  pub past_row : d.rings ≡ 0 → (r : Turn) → To (behind_all n d) r → Past c r
-  past_row z (On e b) k = h.last z e k
-  past_row z (Over code item field) k = tt
+  pub past_row : d.rings ≡ 0 → (r : Result Reached Fault) → To (behind_all n d) r → Past c r
+  past_row z (Ok q) k = h.last z q.place k
+  past_row z (Err f) k = tt

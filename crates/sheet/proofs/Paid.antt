@@ -9,8 +9,7 @@ use lib.Dec.{eqb}
 use lib.ListN.{length, length-append, length-set}
 use Rattle.whole.proofs.Tests.{by_cond}
 use Rattle.sheet_coordinate.specs.Coordinate.{coordinate_of}
-use Rattle.sheet_coordinate.specs.declared.Coordinate.{Coordinate}
-use Rattle.sheet_coordinate.specs.declared.Coordinate.TheVariants.{Whole, Not}
+use Rattle.std.specs.Prelude.{Option, Some, None}
 use Rattle.wkb_kinds.specs.declared.Slot.{Slot}
 use Rattle.wkb_kinds.specs.declared.Slot.TheVariants.{Sheet, Table, Piece, Part, Member}
 use Rattle.wkb.specs.declared.Cursor.{Cursor}
@@ -71,17 +70,17 @@ turn_good s c b h = go (step_at s c) (step_moved s c)
     enough : 4 * length b.numbers ≤ length s
     enough = omega (arith, h.0, h.1)
 
-    point : (c' : Cursor) → (c'.at ≡ c.at + 16) × (c'.at ≤ length s) → (x y : Coordinate) → Good s (judged c c' b x y)
-    point c' m Not y = enough
-    point c' m (Whole x) Not = enough
-    point c' m (Whole x) (Whole y) = by_cond (Good s) (differs c x y b) _ _ (λ t. enough) (omega (arith, h.0, m.0, pointing_adds c x y b), m.1)
+    point : (c' : Cursor) → (c'.at ≡ c.at + 16) × (c'.at ≤ length s) → (x y : Option ℕ) → Good s (judged c c' b x y)
+    point c' m None y = enough
+    point c' m (Some x) None = enough
+    point c' m (Some x) (Some y) = by_cond (Good s) (differs c x y b) _ _ (λ t. enough) (omega (arith, h.0, m.0, pointing_adds c x y b), m.1)
 
     go : (a : Step) → Moved s c a → Good s (taken c b a)
     go (Geometry kind n c') m = (omega (arith, h.0, m.0, opening_adds (slot_of c) c c' kind n b), m.1)
     go (Ring n c') m = (omega (arith, h.0, m.0, ringing_adds c n b), m.1)
     go (Point x y c') m = point c' m (coordinate_of x) (coordinate_of y)
     go (End c') m = enough
-    go (Refused code item field c') m = enough
+    go (Refused reason item field c') m = enough
 
 -- ---- reading
 run_paid : (n : ℕ) (s : List ℕ) (c : Cursor) (b : Taken) → Paid s c b → 4 * length (run n s c b).numbers ≤ length s

@@ -2,6 +2,7 @@
 use mathlib.Core.Path.{◌≡◌, refl, ◌∙◌}
 use mathlib.Core.Bool.{true}
 use mathlib.Core.List.{List}
+use Rattle.std.specs.Prelude.{Ok}
 use Prim.Native.Nat.{ℕ, ◌+◌, ◌<◌}
 use native.Mathlib.Omega.{arith}
 use borrow.Author.Tests.{lt-ltb, le-ltb}
@@ -13,7 +14,6 @@ use Rattle.wkb.specs.declared.Step.TheVariants.{Ring, Point}
 use Rattle.wkb.specs.Steps.{ring_fits, with_points, ring_at, after_point, point_at, step_at}
 use Rattle.sheet.specs.declared.Build.{Build}
 use Rattle.sheet.specs.declared.Reached.{Reached}
-use Rattle.sheet.specs.declared.Turn.TheVariants.{On}
 use Rattle.sheet.specs.Reading.{Taken, taken}
 use Rattle.sheet.specs.Going.{Shows, Turned, Within, Leads}
 use Rattle.sheet.specs.Rings.{Reaches}
@@ -34,19 +34,12 @@ unfolding step_at point_at
 point_step s c x y o l d e = rw (lt-ltb 0 c.points o, l, d, e) refl
 
 -- ---- what is reached
--- A place and what was read up to it.
-abbrev pub at : Cursor → Build → Reached
-at c b = record { place = c; build = b }
-
 module _ (s : List ℕ) (c : Cursor) (b : Build) (numbers : List ℕ) (w : Within s c b) (o : 0 < c.rings + c.points) where
-  pub reach_none : Reaches s c b numbers (at c b) numbers
-  reach_none = (((w, omega arith), λ t out h. (t, h, refl)), (λ p. refl, λ z. absurd (omega arith)))
-
-  pub reach_step : (a : Step) (d : Cursor) (f : Build) (more : List ℕ) → a ≡ step_at s c
-      → Leads a b (On d f) × ((t : Taken) (out : List ℕ) → Shows out t b numbers → Turned out (taken c t a) (On d f) more) → Reaches s c b numbers (at d f) more
-  reach_step a d f more e h =
-      let g = goes_on s c b a (On d f) numbers more e h d f refl w in
-      (((g.0, omega (arith, g.1)), g.2.leads), goes_nearer s c b a (On d f) o e h.0 d f refl)
+  pub reach_step : (a : Step) (q : Reached) (more : List ℕ) → a ≡ step_at s c
+      → Leads a b (Ok q) × ((t : Taken) (out : List ℕ) → Shows out t b numbers → Turned out (taken c t a) (Ok q) more) → Reaches s c b numbers q more × (c.at < q.place.at)
+  reach_step a q more e h =
+      let g = goes_on s c b a numbers more e q h w in
+      ((((g.0, omega (arith, g.1)), g.2.leads), goes_nearer s c b a o e q h.0), omega (arith, g.1))
 
 pub reach_on : (s : List ℕ) (c : Cursor) (b : Build) (numbers : List ℕ) (r : Reached) (more : List ℕ) (q : Reached) (most : List ℕ) → 0 < r.place.rings + r.place.points
     → Reaches s c b numbers r more → Reaches s r.place r.build more q most → Reaches s c b numbers q most

@@ -10,8 +10,8 @@ use lib.ListN.{length}
 use Rattle.whole.proofs.Tests.{by_cond}
 use Rattle.whole.proofs.Sums.{and_left, and_right, and_both}
 use Rattle.sheet_coordinate.specs.Coordinate.{coordinate_of}
-use Rattle.sheet_coordinate.specs.declared.Coordinate.{Coordinate}
-use Rattle.sheet_coordinate.specs.declared.Coordinate.TheVariants.{Whole, Not}
+use Rattle.std.specs.Prelude.{Option, Some, None}
+use Rattle.lent.specs.Refusals.{code_of}
 use Rattle.wkb.specs.declared.Cursor.{Cursor}
 use Rattle.wkb_kinds.specs.declared.Slot.{Slot}
 use Rattle.wkb_kinds.specs.declared.Slot.TheVariants.{Sheet, Table, Piece, Part, Member}
@@ -42,7 +42,7 @@ Fine limit (Geometry kind n d) = Names limit d
 Fine limit (Ring n d) = Names limit d
 Fine limit (Point x y d) = Names limit d
 Fine limit (End d) = Unit {0}
-Fine limit (Refused code item field d) = Lawful limit code item
+Fine limit (Refused reason item field d) = Lawful limit (code_of reason) item
 
 -- ---- the places that are reached
 renewed_member : {limit : ℕ} (c : Cursor) → Names limit c → Names limit (renewed c)
@@ -64,7 +64,7 @@ opened_member {limit} Member c little kind n t h =
 step_fine : {limit : ℕ} (s : List ℕ) (c : Cursor) → Names limit c → Fine limit (step_at s c)
 unfolding with_points after_point
 step_fine {limit} s c h = by_case (Fine limit) s c (record {
-  refused = λ code field t f. lawful limit code c.member t h.1;
+  refused = λ reason field t f. lawful limit (code_of reason) c.member t h.1;
   point = λ p l. renewed_member _ h;
   ring = λ p r l n f. h;
   end = λ due. (λ e. tt, λ l. tt);
@@ -80,17 +80,17 @@ turn_good : {limit : ℕ} (s : List ℕ) (c : Cursor) (b : Taken) → Names limi
 unfolding turn taken judged
 turn_good {limit} s c b h = go (step_at s c) (step_fine s c h)
   where
-    point : (d : Cursor) → Names limit d → (x y : Coordinate) → Good limit (judged c d b x y)
-    point d f Not y = lawful limit 5 c.member tt h.1
-    point d f (Whole x) Not = lawful limit 5 c.member tt h.1
-    point d f (Whole x) (Whole y) = by_cond (Good limit) (eqb c.points 1 && not (eqb x (noted x y b).x && eqb y (noted x y b).y)) _ _ (λ t. lawful limit 6 c.member tt h.1) f
+    point : (d : Cursor) → Names limit d → (x y : Option ℕ) → Good limit (judged c d b x y)
+    point d f None y = lawful limit 5 c.member tt h.1
+    point d f (Some x) None = lawful limit 5 c.member tt h.1
+    point d f (Some x) (Some y) = by_cond (Good limit) (eqb c.points 1 && not (eqb x (noted x y b).x && eqb y (noted x y b).y)) _ _ (λ t. lawful limit 6 c.member tt h.1) f
 
     go : (a : Step) → Fine limit a → Good limit (taken c b a)
     go (Geometry kind n d) f = f
     go (Ring n d) f = f
     go (Point x y d) f = point d f (coordinate_of x) (coordinate_of y)
     go (End d) f = tt
-    go (Refused code item field d) f = f
+    go (Refused reason item field d) f = f
 
 run_lawful : {limit : ℕ} (n : ℕ) (s : List ℕ) (c : Cursor) (b : Taken) → Names limit c → Lawful limit (run n s c b).code (run n s c b).item
 unfolding run

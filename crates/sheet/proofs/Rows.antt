@@ -52,13 +52,13 @@ pub row_first : (n depth : ℕ) (c : Cursor) → 0 < n → Row n depth c → Beg
 row_first zero depth c l h = absurd (omega arith)
 row_first (suc n) depth c l h = h.0
 
-pub row_next : (n depth : ℕ) (c d : Cursor) → 0 < n → Row n depth c → After (eqb c.member 0) c d → Row (n - 1) depth d × (counts (behind_all (n - 1) d) ≡ counts (behind_all n c))
+pub row_next : (n m depth : ℕ) (c d : Cursor) → n ≡ suc m → Row n depth c → After (eqb c.member 0) c d → Row m depth d × (counts (behind_all m d) ≡ counts (behind_all n c))
 unfolding behind_all
-row_next zero depth c d l h k = absurd (omega arith)
-row_next (suc n) depth c d l h k =
+row_next zero m depth c d l h k = absurd (omega arith)
+row_next (suc n) m depth c d l h k =
     let e : counts d ≡ counts (behind c) = rw h.1 at k in
-    let z : n ≡ suc n - 1 = omega arith in
-    subst (λ m. Row m depth d × (counts (behind_all m d) ≡ counts (behind_all (suc n) c))) z (same_row n depth (behind c) d (sym e) h.2, same_behind_all n d (behind c) e)
+    let z : n ≡ m = omega arith in
+    subst (λ x. Row x depth d × (counts (behind_all x d) ≡ counts (behind_all (suc n) c))) z (same_row n depth (behind c) d (sym e) h.2, same_behind_all n d (behind c) e)
 
 pub row_done : (n : ℕ) (c k : Cursor) → n ≡ 0 → counts (behind_all n c) ≡ k → counts c ≡ k
 unfolding behind_all

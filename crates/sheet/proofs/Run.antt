@@ -9,8 +9,7 @@ use lib.Dec.{ltb, eqb}
 use lib.ListN.{length}
 use Rattle.whole.proofs.Tests.{by_cond}
 use Rattle.sheet_coordinate.specs.Coordinate.{coordinate_of}
-use Rattle.sheet_coordinate.specs.declared.Coordinate.{Coordinate}
-use Rattle.sheet_coordinate.specs.declared.Coordinate.TheVariants.{Whole, Not}
+use Rattle.std.specs.Prelude.{Option, Some, None}
 use Rattle.wkb.specs.declared.Cursor.{Cursor}
 use Rattle.wkb.specs.Places.{moved, points_to_come}
 use Rattle.wkb_kinds.specs.declared.Slot.{Slot}
@@ -33,7 +32,7 @@ Moved s c (Geometry kind n c') = AheadBy 9 s c c'
 Moved s c (Ring n c') = AheadBy 4 s c c'
 Moved s c (Point x y c') = AheadBy 16 s c c'
 Moved s c (End c') = Unit {0}
-Moved s c (Refused code item field c') = Unit {0}
+Moved s c (Refused reason item field c') = Unit {0}
 
 -- It is a field or more ahead.
 abbrev pub Ahead : List ℕ → Cursor → Cursor → Type 0
@@ -57,7 +56,7 @@ opened_at Member c little kind n =
 pub step_moved : (s : List ℕ) (c : Cursor) → Moved s c (step_at s c)
 unfolding with_points after_point
 step_moved s c = by_case (Moved s c) s c (record {
-  refused = λ code field t f. tt;
+  refused = λ reason field t f. tt;
   point = λ p l. let e = renewed_at (points_to_come (c.points - 1) (moved 16 c)) in (e, omega arith);
   ring = λ p r l n f. (refl, l);
   end = λ due. (λ e. tt, λ l. tt);
@@ -73,17 +72,17 @@ pub turn_moved : (s : List ℕ) (c : Cursor) (b : Taken) → Goes s c (turn s c 
 unfolding turn taken judged
 turn_moved s c b = go (step_at s c) (step_moved s c)
   where
-    point : (c' : Cursor) → Ahead s c c' → (x y : Coordinate) → Goes s c (judged c c' b x y)
-    point c' h Not y = tt
-    point c' h (Whole x) Not = tt
-    point c' h (Whole x) (Whole y) = by_cond (Goes s c) (eqb c.points 1 && not (eqb x (noted x y b).x && eqb y (noted x y b).y)) _ _ (λ t. tt) h
+    point : (c' : Cursor) → Ahead s c c' → (x y : Option ℕ) → Goes s c (judged c c' b x y)
+    point c' h None y = tt
+    point c' h (Some x) None = tt
+    point c' h (Some x) (Some y) = by_cond (Goes s c) (eqb c.points 1 && not (eqb x (noted x y b).x && eqb y (noted x y b).y)) _ _ (λ t. tt) h
 
     go : (a : Step) → Moved s c a → Goes s c (taken c b a)
     go (Geometry kind n c') h = (omega arith, h.1)
     go (Ring n c') h = (omega arith, h.1)
     go (Point x y c') h = point c' ((omega arith, h.1)) (coordinate_of x) (coordinate_of y)
     go (End c') h = tt
-    go (Refused code item field c') h = tt
+    go (Refused reason item field c') h = tt
 
 -- ---- enough steps
 -- As many steps as there are bytes from the place on, and one.

@@ -23,7 +23,7 @@ Kept (Geometry kind n c) = (n ≤ offset) × Sane c
 Kept (Ring n c) = (n ≤ 4096) × Sane c
 Kept (Point x y c) = Sane c
 Kept (End c) = Unit {0}
-Kept (Refused code item field c) = Unit {0}
+Kept (Refused reason item field c) = Unit {0}
 
 count_small : (limit : ℕ) (slot : Slot) (n : ℕ) → limit ≤ offset → T (count_fits limit slot n) → n ≤ offset
 unfolding count_fits
@@ -71,7 +71,7 @@ ring_small c n t = go (eqb c.member 1) t
 pub step_kept : (s : List ℕ) (c : Cursor) → Sane c → Kept (step_at s c)
 unfolding with_points after_point
 step_kept s c h = by_case Kept s c (record {
-  refused = λ code field t f. tt;
+  refused = λ reason field t f. tt;
   point = λ p l. renewed_sane _ (record { polygons = h.polygons; members = h.members; limit = h.limit });
   ring = λ p r l n f. (ring_small c n (passed f), record { polygons = h.polygons; members = h.members; limit = h.limit });
   end = λ due. (λ e. tt, λ l. tt);

@@ -1,14 +1,13 @@
 -- What the code's struct and lent numbers show after each of the small changes to what was taken. Assumes nothing.
-use mathlib.Core.Path.{◌≡◌, sym, ◌∙◌, ap, ap₂}
+use mathlib.Core.Path.{◌≡◌, sym, ◌∙◌, ap₂}
 use mathlib.Core.List.{List, [], ◌∷◌}
-use Prim.Native.Nat.{ℕ, ◌+◌, ◌≤◌, ◌<◌}
+use Prim.Native.Nat.{ℕ, ◌+◌, ◌<◌}
 use native.Mathlib.Omega.{arith}
-use lib.ListN.{length, set, length-append, length-set}
-use lib.Seq.{set_out}
+use lib.ListN.{set, length-append, length-set}
 use Rattle.sheet.specs.declared.Build.{Build}
 use Rattle.sheet.specs.Reading.{Taken, held}
 use Rattle.sheet.specs.Reading
-use Rattle.sheet.specs.Going.{laid, Shows}
+use Rattle.sheet.specs.Going.{Shows}
 use Rattle.sheet.proofs.Laid.{laid_push, laid_set}
 
 -- One number more.
@@ -34,15 +33,3 @@ shows_tally out t b numbers more n h l e = record {
   x = h.x;
   y = h.y;
 }
-
-pub shows_no_tally : (out : List ℕ) (t : Taken) (b : Build) (numbers : List ℕ) (n : ℕ) → Shows out t b numbers → b.fill ≤ b.mark → Shows out (Reading.tally n t) b numbers
-shows_no_tally out t b numbers n h l =
-    let e = set_out t.numbers t.mark (held n) (omega (arith, h.mark, h.fill)) in
-    record {
-      fill = h.fill ∙ ap length (sym e);
-      laid_over = h.laid_over ∙ ap (λ m. laid m out) (sym e);
-      mark = h.mark;
-      first = h.first;
-      x = h.x;
-      y = h.y;
-    }

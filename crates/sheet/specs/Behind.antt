@@ -1,12 +1,12 @@
 -- What is to come behind a geometry that is read whole, and how many levels of geometries it can hold.
-use Rattle.std.specs.Prelude.{◌≡◌, Bool, true, false, not, cond, ◌&&◌, ◌||◌, ℕ, zero, suc, ◌+◌, ◌≤◌, T, ltb, eqb}
+use Rattle.std.specs.Prelude.{◌≡◌, Result, Ok, Err, Bool, true, false, not, cond, ◌&&◌, ◌||◌, ℕ, zero, suc, ◌+◌, ◌≤◌, T, ltb, eqb}
 use Rattle.wkb_kinds.specs.declared.Slot.{Slot}
 use Rattle.wkb_kinds.specs.declared.Slot.TheVariants.{Sheet, Table, Piece, Part, Member}
 use Rattle.wkb.specs.declared.Cursor.{Cursor}
 use Rattle.wkb.specs.Places.{naming, geometries_to_come, polygon_to_come}
 use Rattle.wkb.specs.Steps.{start, slot_of, complete, renewed, popped, fewer_parts}
-use Rattle.sheet.specs.declared.Turn.{Turn}
-use Rattle.sheet.specs.declared.Turn.TheVariants.{On, Over}
+use Rattle.lent.specs.declared.Fault.{Fault}
+use Rattle.sheet.specs.declared.Reached.{Reached}
 
 -- The counts of a place: the member that it names, the most members and what is to come, wherever the place stands and whatever was counted before.
 abbrev pub counts : Cursor → Cursor
@@ -62,10 +62,10 @@ After true c d = Finished d
 After false c d = counts d ≡ counts (behind c)
 
 -- Where reading goes on, it goes on with the counts of d; it goes on behind the geometry at c.
-abbrev pub To : Cursor → Turn → Type 0
-To d (On e b) = counts e ≡ counts d
-To d (Over code item field) = Unit {0}
+abbrev pub To : Cursor → Result Reached Fault → Type 0
+To d (Ok q) = counts q.place ≡ counts d
+To d (Err f) = Unit {0}
 
-abbrev pub Past : Cursor → Turn → Type 0
-Past c (On e b) = After (eqb c.member 0) c e
-Past c (Over code item field) = Unit {0}
+abbrev pub Past : Cursor → Result Reached Fault → Type 0
+Past c (Ok q) = After (eqb c.member 0) c q.place
+Past c (Err f) = Unit {0}

@@ -1,6 +1,5 @@
 -- A sheet as the code holds it, within the limits.
 use Rattle.std.specs.Prelude.{◌≡◌, List, map, ℕ, ◌+◌, ◌≤◌, length}
-use Rattle.std.proofs.Math.Option.{some}
 use Rattle.whole.specs.Sums.{All}
 use Rattle.plane.specs.Corners.{millimetres}
 use Rattle.plane.specs.Keys.{Held}

@@ -1,9 +1,8 @@
 -- Reading a sheet by steps, left to right, to the first fault. Each number is held as itself plus 10,000,000.
-use Rattle.std.specs.Prelude.{Bool, true, false, not, cond, ◌&&◌, List, [], ◌∷◌, ◌++◌, ℕ, zero, suc, ◌+◌, eqb, length, set}
+use Rattle.std.specs.Prelude.{Option, Some, None, Bool, true, false, not, cond, ◌&&◌, List, [], ◌∷◌, ◌++◌, ℕ, zero, suc, ◌+◌, eqb, length, set}
 use Rattle.plane.specs.Corners.{offset}
+use Rattle.lent.specs.declared.Reason.TheVariants.{Short, Coordinate, Unclosed}
 use Rattle.sheet_coordinate.specs.Coordinate.{coordinate_of}
-use Rattle.sheet_coordinate.specs.declared.Coordinate.{Coordinate}
-use Rattle.sheet_coordinate.specs.declared.Coordinate.TheVariants.{Whole, Not}
 use Rattle.wkb.specs.declared.Cursor.{Cursor}
 use Rattle.wkb_kinds.specs.declared.Slot.{Slot}
 use Rattle.wkb_kinds.specs.declared.Slot.TheVariants.{Sheet, Table, Piece, Part, Member}
@@ -124,10 +123,10 @@ differs c x y b = closing c && not (eqb x (noted x y b).x && eqb y (noted x y b)
 
 -- A point at c is judged as it comes, c' being the next place: 5 at the first double that is not a coordinate, y being 8 bytes behind x, then 6 at the
 -- point where it is the ring's last and differs from its first.
-unfoldable pub judged : Cursor → Cursor → Taken → Coordinate → Coordinate → Turn
-judged c c' b Not q = over (ended (refusal 5 c.at c) b)
-judged c c' b (Whole x) Not = over (ended (refusal 5 (c.at + 8) c) b)
-judged c c' b (Whole x) (Whole y) = cond (differs c x y b) (over (ended (refusal 6 c.at c) b)) (on c' (pointing c x y b))
+unfoldable pub judged : Cursor → Cursor → Taken → Option ℕ → Option ℕ → Turn
+judged c c' b None q = over (ended (refusal Coordinate c.at c) b)
+judged c c' b (Some x) None = over (ended (refusal Coordinate (c.at + 8) c) b)
+judged c c' b (Some x) (Some y) = cond (differs c x y b) (over (ended (refusal Unclosed c.at c) b)) (on c' (pointing c x y b))
 
 -- What the answer of a step at c adds, c' being the next place. The end and a refusal end reading.
 unfoldable pub taken : Cursor → Taken → Step → Turn
@@ -135,7 +134,7 @@ taken c b (Geometry kind n c') = on c' (opening (slot_of c) c c' kind n b)
 taken c b (Ring n c') = on c' (ringing c n b)
 taken c b (Point x y c') = judged c c' b (coordinate_of x) (coordinate_of y)
 taken c b (End c') = over (ended (End c') b)
-taken c b (Refused code item field c') = over (ended (Refused code item field c') b)
+taken c b (Refused reason item field c') = over (ended (Refused reason item field c') b)
 
 -- One step, and what its answer adds.
 unfoldable pub turn : List ℕ → Cursor → Taken → Turn
@@ -143,7 +142,7 @@ turn s c b = taken c b (step_at s c)
 
 -- Reading from a place on, by so many steps at most. Each step but the last goes forward, so the bytes that are left bound the steps.
 unfoldable pub run : ℕ → List ℕ → Cursor → Taken → Reading
-run zero s c b = ended (refusal 1 c.at c) b
+run zero s c b = ended (refusal Short c.at c) b
 run (suc n) s c b = elim (turn s c b) [ on c' b' ↦ run n s c' b' | over r ↦ r ]
 
 -- The reading of a sheet that may have so many members, the table among them: a step for each byte and one more are enough.

@@ -10,6 +10,7 @@ use lib.ListN.{length, get_or, take, drop, length-append}
 use lib.Seq.{take-take}
 use mir.Syntax.{w64}
 use mir.Val.{SFits, to_z, of_z}
+use mir.Facts.{to_z-of_z}
 use Rattle.whole.specs.Numbers.{Within}
 use Rattle.whole.specs.Polynomials.{con, ◌:+◌, ◌:=◌}
 use Rattle.whole.specs.Sums.{All, sum}
@@ -151,6 +152,20 @@ module _ {A : Type 0} {f : A → List ℤ} {e : A → List Edge} {Fit : A → Ty
           let all : passed ≡ length (flat_map e l) = omega arith in
           (solve 1 (λ u. u := u :+ con (pos 0)) tt total ∙ g, subst (λ n. Within (400_000_000_000_000 * n) total) all b, s, omega arith)
       go l rest (t ∷ todo) passed m g k b s d = absurd (omega arith)
+
+-- As many things left, counted otherwise.
+pub going_as : {A : Type 0} {f : A → List ℤ} {e : A → List Edge} {Fit : A → Type 0} {numbers : List ℕ} {at here left left' : ℕ} {total : ℤ}
+    → Going f e Fit numbers at here left total → left ≡ left' → Going f e Fit numbers at here left' total
+going_as w e = rw e at w
+
+-- One thing more is summed up, as the code adds it.
+pub going_added : {A : Type 0} {f : A → List ℤ} {e : A → List Edge} {Fit : A → Type 0} {numbers : List ℕ} {at here left : ℕ} {total : ℤ} {r : Summed}
+    → Place (counted f) (flat_map e) (All Fit) numbers at → Going f e Fit numbers at here left total → 0 < left → Sums f e Fit numbers here r
+    → SFits w64 (to_z w64 (of_z w64 total) +ℤ to_z w64 (of_z w64 r.area))
+    × Going f e Fit numbers at r.next (left - 1) (to_z w64 (of_z w64 (to_z w64 (of_z w64 total) +ℤ to_z w64 (of_z w64 r.area))))
+going_added p w h v =
+    let g = going_more w h v in
+    rw (to_z-of_z {w = w64} (going_fits w p), one_fits (going_place w p h) v) (going_fits g p, rw (to_z-of_z {w = w64} (going_fits g p)) g)
 
 -- Behind the points of a ring stands the rest.
 points_behind : (numbers : List ℕ) (here : ℕ) (l : Ring) (rest : List ℤ) → map millimetres (drop here numbers) ≡ flat_map point_numbers l ++ rest

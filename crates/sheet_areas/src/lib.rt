@@ -38,19 +38,18 @@ fn part(numbers: &[u32], at: usize) -> Summed
     requires { Place part_numbers (flat_map edges) (All RingLimits) numbers.now at }
     ensures { Sums part_numbers (flat_map edges) (All RingLimits) numbers.now at result }
 {
-    let mut here = at + 1;
-    let mut total: i64 = 0;
-    let mut left = numbers[at] - OFFSET;
-    while 0 < left {
-        let one = ring(numbers, here);
-        total += one.area;
-        here = one.next;
-        left -= 1;
+    let mut sum = Summed {
+        area: 0,
+        next: at + 1,
+    };
+    for _ in 0..numbers[at] - OFFSET {
+        let one = ring(numbers, sum.next);
+        sum = Summed {
+            area: sum.area + one.area,
+            next: one.next,
+        };
     }
-    Summed {
-        area: total,
-        next: here,
-    }
+    sum
 }
 
 // The double area of the polygon at a place, that of all its parts.
@@ -58,29 +57,18 @@ fn polygon(numbers: &[u32], at: usize) -> Summed
     requires { Place member_numbers member_edges (All (All RingLimits)) numbers.now at }
     ensures { Sums member_numbers member_edges (All (All RingLimits)) numbers.now at result }
 {
-    let mut here = at + 1;
-    let mut total: i64 = 0;
-    let mut left = numbers[at] - OFFSET;
-    while 0 < left {
-        let one = part(numbers, here);
-        total += one.area;
-        here = one.next;
-        left -= 1;
+    let mut sum = Summed {
+        area: 0,
+        next: at + 1,
+    };
+    for _ in 0..numbers[at] - OFFSET {
+        let one = part(numbers, sum.next);
+        sum = Summed {
+            area: sum.area + one.area,
+            next: one.next,
+        };
     }
-    Summed {
-        area: total,
-        next: here,
-    }
-}
-
-// The bits of a signed number, in two's complement.
-fn bits(z: i64) -> u64
-    ensures { result ≡ of_z w64 z }
-{
-    if z < 0 {
-        return 18_446_744_073_709_551_615 - (-1 - z) as u64;
-    }
-    z as u64
+    sum
 }
 
 // The double area of each polygon of the sheet at the front of the numbers, as the bits of an i64.
@@ -90,11 +78,9 @@ pub fn areas(numbers: &[u32], areas: &mut [u64])
         → areas.new ≡ map (λ (m : Member). of_z w64 (double_area m)) n.polygons }
 {
     let mut here = 2 + 6 * (numbers[0] - OFFSET) as usize;
-    let mut k: usize = 0;
-    while k < areas.len() {
+    for area in areas.iter_mut() {
         let one = polygon(numbers, here);
-        areas[k] = bits(one.area);
+        *area = one.area.cast_unsigned();
         here = one.next;
-        k += 1;
     }
 }

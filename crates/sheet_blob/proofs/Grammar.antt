@@ -10,20 +10,20 @@ use native.Mathlib.Omega.{arith}
 use lib.ListN.{length, drop, get_or, length-append}
 use lib.Seq.{drop-append_seam}
 use Rattle.whole.proofs.Sums.{all-++}
+use Rattle.lent.specs.declared.Reason.{Reason}
 use Rattle.lent_little.specs.Ordered.{bytes, number_of, bytes_of, field, word_at, double_at}
 use Rattle.lent_little.proofs.Ordered.{length-bytes_of, ordered_all, bytes_below}
 use Rattle.lent_fields.proofs.Fields.{Bytes, Reads, reads, written, number_fits}
 use Rattle.wkb.specs.Standard.{order}
 use Rattle.wkb.proofs.Orders.{order_said, said_order}
-use Rattle.sheet_envelope.specs.declared.Optional.TheVariants.{Absent, Present}
 use Rattle.sheet_envelope.specs.Envelope.{envelope_at}
 use Rattle.sheet_blob.specs.declared.Opened.{Opened}
-use Rattle.sheet_blob.specs.declared.Opening.TheVariants.{Read, Refused}
 use Rattle.sheet_blob.specs.Blob.{Patterns, Header, kind_of, flags_of, encode_envelope, encode_header, blob_of, PatternsFit, HeaderFits}
-use Rattle.sheet_blob.specs.Opening.{flags_at, little_in, kind_in, opened, rest_of, opening_of, doubles_of, opened_as}
+use Rattle.sheet_blob.specs.Opening.{fault, flags_at, little_in, kind_in, opened, rest_of, opening_of, doubles_of, opened_as}
 use Rattle.sheet_blob.specs.Faults.{Flagged}
 use Rattle.sheet_blob.proofs.Cases.{by_case}
 use Rattle.sheet_blob.proofs.Refusals.{flagged, rest_bare, rest_enveloped}
+use Rattle.std.specs.Prelude.{None, Some, Ok, Err}
 
 -- ---- lengths
 envelope_length : (little : Bool) (o : Option Patterns) → length (encode_envelope little o) ≡ 32 * kind_of o
@@ -127,7 +127,7 @@ module _ (h : Header) (fits : HeaderFits h) (sheet : List ℕ) where
 regroup : (a b c d e : List ℕ) → a ++ b ++ c ++ d ++ e ≡ a ++ (b ++ (c ++ (d ++ e)))
 regroup a b c d e = simp append_assoc
 
-envelope_is : (little : Bool) (p : Patterns) (s sheet : List ℕ) → 8 ≤ length s → PatternsFit (some p) → drop 8 s ≡ encode_envelope little (some p) ++ sheet → Present (envelope_at little s 8) ≡ doubles_of (some p)
+envelope_is : (little : Bool) (p : Patterns) (s sheet : List ℕ) → 8 ≤ length s → PatternsFit (some p) → drop 8 s ≡ encode_envelope little (some p) ++ sheet → Some (envelope_at little s 8) ≡ doubles_of (some p)
 unfolding double_at
 envelope_is little p s sheet l (a, b, c, d) e =
     let r1 = reads little 8 s 8 p.left (bytes_of little 8 p.right ++ (bytes_of little 8 p.low ++ (bytes_of little 8 p.high ++ sheet))) l a (e ∙ regroup (bytes_of little 8 p.left) (bytes_of little 8 p.right) (bytes_of little 8 p.low) (bytes_of little 8 p.high) sheet) in
@@ -137,10 +137,10 @@ envelope_is little p s sheet l (a, b, c, d) e =
     rw (r1.number, r2.number, r3.number, r4.number) refl
 
 -- A header of the grammar is read, whatever stands behind it.
-pub encoded_read : (h : Header) → HeaderFits h → (sheet : List ℕ) → opening_of (blob_of h sheet) ≡ Read (opened_as h)
+pub encoded_read : (h : Header) → HeaderFits h → (sheet : List ℕ) → opening_of (blob_of h sheet) ≡ Ok (opened_as h)
 encoded_read h fits sheet = flagged (blob_of h sheet) (is_flagged h fits sheet) ∙ go h.envelope refl
   where
-    go : (o : Option Patterns) → h.envelope ≡ o → rest_of (blob_of h sheet) ≡ Read (opened_as h)
+    go : (o : Option Patterns) → h.envelope ≡ o → rest_of (blob_of h sheet) ≡ Ok (opened_as h)
     go none e =
         rest_bare (blob_of h sheet) (omega (arith, long h fits sheet)) (kind_is h fits sheet ∙ ap kind_of e)
         ∙ rw (number_is h fits sheet, header_length h, e) refl
@@ -189,9 +189,9 @@ module _ (s : List ℕ) (bytes : Bytes s) (f : Flagged s) (eight : 8 ≤ length 
   unfolding word_at
   number_fit = number_fits (little_in s) 4 s 4 bytes eight
 
-  bare_blob : (r : Opened) → kind_in s ≡ 0 → opened s 8 Absent ≡ Read r → BlobRead s r
+  bare_blob : (r : Opened) → kind_in s ≡ 0 → opened s 8 None ≡ Ok r → BlobRead s r
   bare_blob r k e =
-      let q : record { number = word_at (little_in s) s 4; at = 8; envelope = Absent } ≡ r = cc e in
+      let q : record { number = word_at (little_in s) s 4; at = 8; envelope = None } ≡ r = cc e in
       record { header = header_at none; fits = record { number = number_fit; envelope = tt }; sheet = drop 8 s; bytes = blob_of_lem none (drop 8 s) k refl; read = sym q ∙ rw (header_length (header_at none)) refl }
 
 -- Four fields of 8 bytes, one behind the other.
@@ -214,12 +214,12 @@ module _ (s : List ℕ) (bytes : Bytes s) (little : Bool) (forty : 40 ≤ length
   patterns_fit =
       (number_fits little 8 s 8 bytes (omega arith), number_fits little 8 s 16 bytes (omega arith), number_fits little 8 s 24 bytes (omega arith), number_fits little 8 s 32 bytes forty)
 
-enveloped_blob : (s : List ℕ) → Bytes s → Flagged s → 40 ≤ length s → (r : Opened) → kind_in s ≡ 1 → opened s 40 (Present (envelope_at (little_in s) s 8)) ≡ Read r → BlobRead s r
+enveloped_blob : (s : List ℕ) → Bytes s → Flagged s → 40 ≤ length s → (r : Opened) → kind_in s ≡ 1 → opened s 40 (Some (envelope_at (little_in s) s 8)) ≡ Ok r → BlobRead s r
 unfolding double_at
 enveloped_blob s bytes f forty r k e =
     let eight : 8 ≤ length s = omega arith in
     let o = some (patterns_at (little_in s) s) in
-    let q : record { number = word_at (little_in s) s 4; at = 40; envelope = Present (envelope_at (little_in s) s 8) } ≡ r = cc e in
+    let q : record { number = word_at (little_in s) s 4; at = 40; envelope = Some (envelope_at (little_in s) s 8) } ≡ r = cc e in
     record {
       header = header_at s bytes f eight o;
       fits = record { number = number_fit s bytes f eight; envelope = patterns_fit s bytes (little_in s) forty };
@@ -229,14 +229,14 @@ enveloped_blob s bytes f forty r k e =
     }
 
 -- Bytes are read as a header exactly if they are a blob of the grammar.
-pub read_exactly : (s : List ℕ) → Bytes s → (r : Opened) → (opening_of s ≡ Read r) ↔ BlobRead s r
-read_exactly s bytes r = (by_case (λ o. o ≡ Read r → BlobRead s r) s (record { refused = λ c p f e. never e; bare = λ f l k e. bare_blob s bytes f l r k e; enveloped = λ f l k e. enveloped_blob s bytes f l r k e }), back)
+pub read_exactly : (s : List ℕ) → Bytes s → (r : Opened) → (opening_of s ≡ Ok r) ↔ BlobRead s r
+read_exactly s bytes r = (by_case (λ o. o ≡ Ok r → BlobRead s r) s (record { refused = λ c p f e. never e; bare = λ f l k e. bare_blob s bytes f l r k e; enveloped = λ f l k e. enveloped_blob s bytes f l r k e }), back)
   where
-    never : {c p : ℕ} → Refused c p ≡ Read r → BlobRead s r
-    never e = let z : ◌≡◌ {A = ℕ} 0 1 = cc e in absurd (omega arith)
+    never : {c : Reason} {p : ℕ} → Err (fault c p) ≡ Ok r → BlobRead s r
+    never e = absurd (cc e)
 
-    back : BlobRead s r → opening_of s ≡ Read r
-    back b = ap opening_of b.bytes ∙ encoded_read b.header b.fits b.sheet ∙ ap Read (sym b.read)
+    back : BlobRead s r → opening_of s ≡ Ok r
+    back b = ap opening_of b.bytes ∙ encoded_read b.header b.fits b.sheet ∙ ap Ok (sym b.read)
 
 -- The sheet's bytes are those behind the header.
 pub sheet_behind : (s : List ℕ) (r : Opened) (b : BlobRead s r) → drop r.at s ≡ b.sheet

@@ -2,82 +2,85 @@
 #![tactic(auto)]
 
 ghost use Rattle.std.specs.Prelude.{◌≡◌, get_or};
-ghost use Rattle.sheet_blob.specs.Opening.{opening_of, rest_of};
+ghost use Rattle.sheet_blob.specs.Opening.{fault, opening_of, rest_of};
 
+use lent::{Fault, Reason, Refusal};
 use lent_fields::word;
-use sheet_envelope::Optional;
+use sheet_envelope::Envelope;
 
 // A header read: the 32 bits of its reference-system number, where the sheet begins, and its envelope or none.
 #[derive(Clone, Copy)]
 pub struct Opened {
     pub number: u32,
     pub at: usize,
-    pub envelope: Optional,
+    pub envelope: Option<Envelope>,
 }
 
-// What reading a header comes to: the header, or a refusal with its number and position; its item is 0.
-#[derive(Clone, Copy)]
-pub enum Opening {
-    Read(Opened),
-    Refused(u32, usize),
+// The fault of a header with a reason and a position; its item is 0.
+fn fault(reason: Reason, position: usize) -> Fault
+    ensures { result ≡ fault reason position }
+{
+    Fault {
+        refusal: Refusal { reason, item: 0 },
+        position,
+    }
 }
 
 // The number, and the envelope of kind 1.
-fn rest(s: &[u8], flags: u8) -> Opening
+fn rest(s: &[u8], flags: u8) -> Result<Opened, Fault>
     requires { flags ≡ get_or s.now 3 0 }
     ensures { result ≡ rest_of s.now }
 {
     if s.len() < 8 {
-        return Opening::Refused(1, 4);
+        return Err(fault(Reason::Short, 4));
     }
     let little = flags % 2 == 1;
     let number = word(s, 4, little);
     if flags / 2 % 8 == 0 {
-        return Opening::Read(Opened {
-            number: number,
+        return Ok(Opened {
+            number,
             at: 8,
-            envelope: Optional::Absent,
+            envelope: None,
         });
     }
     if s.len() < 40 {
-        return Opening::Refused(1, 8);
+        return Err(fault(Reason::Short, 8));
     }
-    let envelope = sheet_envelope::read(s, 8, little);
-    Opening::Read(Opened {
-        number: number,
+    Ok(Opened {
+        number,
         at: 40,
-        envelope: Optional::Present(envelope),
+        envelope: Some(sheet_envelope::read(s, 8, little)),
     })
 }
 
 // The header at the front of the bytes.
-pub fn header(s: &[u8]) -> Opening
+pub fn header(s: &[u8]) -> Result<Opened, Fault>
     ensures { result ≡ opening_of s.now }
 {
     if s.len() < 2 {
-        return Opening::Refused(1, 0);
+        return Err(fault(Reason::Short, 0));
     }
     if s[0] != b'G' {
-        return Opening::Refused(50, 0);
+        return Err(fault(Reason::NoBlob, 0));
     }
     if s[1] != b'P' {
-        return Opening::Refused(50, 0);
+        return Err(fault(Reason::NoBlob, 0));
     }
     if s.len() < 3 {
-        return Opening::Refused(1, 2);
+        return Err(fault(Reason::Short, 2));
     }
     if s[2] != 0 {
-        return Opening::Refused(50, 0);
+        return Err(fault(Reason::NoBlob, 0));
     }
     if s.len() < 4 {
-        return Opening::Refused(1, 3);
+        return Err(fault(Reason::Short, 3));
     }
     let flags = s[3];
     if flags / 16 != 0 {
-        return Opening::Refused(50, 0);
+        return Err(fault(Reason::NoBlob, 0));
     }
     if 2 <= flags / 2 % 8 {
-        return Opening::Refused(51, 0);
+        return Err(fault(Reason::EnvelopeKind, 0));
     }
     rest(s, flags)
 }

@@ -112,22 +112,22 @@ module _ (s out : List ℕ) where
         over_length : 40 ≤ length (put_mid 40 (length out - 40) out after)
         over_length = omega (arith, length-append (take 40 out) (after ++ drop (length out - 40) (drop 40 out)), length-take-le 40 out long)
 
-        pub blob_over : (number : ℕ) (g : Frame) (last : List ℕ) → number ≡ word_at true s 0 → ((n : Sheet) → sheet_given members form ≡ some n → g ≡ frame_on n)
-            → last ≡ sets (put_mid 40 (length out - 40) out after) 0 (encode_header (normal_header number g)) → Answered (write_blob (blob_given members s)) out (r + 10240) last
-        blob_over number g last p q l =
+        pub blob_over : (number : ℕ) (g : Frame) (last : List ℕ) (m : ℕ) → m ≡ r + 10240 → number ≡ word_at true s 0 → ((n : Sheet) → sheet_given members form ≡ some n → g ≡ frame_on n)
+            → last ≡ sets (put_mid 40 (length out - 40) out after) 0 (encode_header (normal_header number g)) → Answered (write_blob (blob_given members s)) out m last
+        blob_over number g last m u p q l =
             let w = done in
             let n = w.sheet in
             let b : Blob = record { number = word_at true s 0; sheet = n } in
             let h = encode_header (normal_header (word_at true s 0) (frame_on n)) in
-            let m = put_mid 40 (length out - 40) out after in
+            let o = put_mid 40 (length out - 40) out after in
             let k = forty (word_at true s 0) (frame_on n) in
             let c = blob_length b in
-            let first : last ≡ sets m 0 h = l ∙ ap₂ (λ x y. sets m 0 (encode_header (normal_header x y))) p (q n w.is) in
+            let first : last ≡ sets o 0 h = l ∙ ap₂ (λ x y. sets o 0 (encode_header (normal_header x y))) p (q n w.is) in
             let end : drop (length (written n)) room ≡ drop (length (written_blob b)) out =
             ap (drop (length (written n))) (z ∙ tail_is 40 out) ∙ drop-drop (length (written n)) 40 out ∙ ap (λ x. drop x out) (sym c) in
             let all : last ≡ written_blob b ++ drop (length (written_blob b)) out =
-            first ∙ sets-eq h m 0 (omega (arith, over_length)) ∙ ap (λ x. h ++ drop x m) (let y : 0 + length h ≡ 40 = omega arith in y)
+            first ∙ sets-eq h o 0 (omega (arith, over_length)) ∙ ap (λ x. h ++ drop x o) (let y : 0 + length h ≡ 40 = omega arith in y)
             ∙ ap (λ x. h ++ x) (behind ∙ w.left ∙ ap (λ x. written n ++ x) end) ∙ sym (append_assoc h (written n) (drop (length (written_blob b)) out)) in
-            let item : length (written_blob b) * 256 ≡ r + 10240 = omega (arith, w.answer) in
+            let item : length (written_blob b) * 256 ≡ m = omega (arith, w.answer) in
             subst (λ x. Answered (write_blob (blob_given members s)) out x last) item
             (answered_bytes (write_blob (blob_given members s)) out (length (written_blob b)) (written_blob b) (ap write_blob (given ∙ ap (numbered (word_at true s 0)) w.is)) last (omega (arith, w.fits, room_length)) all)

@@ -1,26 +1,21 @@
 -- The table's corners off the bytes of the numbers form that gives a sheet, and its frame from the last corner to the first. The idea: the numbers form
 -- begins with the triangle count and the coordinates of the corners, each in range; one corner more widens the frame. Assumes nothing.
-use mathlib.Core.Path.{◌≡◌, refl, sym, ◌∙◌, ap, ap₂, subst}
+use mathlib.Core.Path.{◌≡◌, sym, ◌∙◌, ap, subst}
 use mathlib.Core.Bool.{true}
-use mathlib.Core.List.{List, [], ◌∷◌, ◌++◌, flat_map}
+use mathlib.Core.List.{List, ◌∷◌, ◌++◌, flat_map}
 use mathlib.Core.Option.{some}
 use mir.Syntax.{w32}
 use mir.Val.{to_z}
-use Prim.Native.Nat.{ℕ, zero, suc, ◌+◌, ◌-◌, ◌*◌, ◌/◌, ◌^◌, ◌≤◌, ◌<◌}
+use Prim.Native.Nat.{ℕ, suc, ◌+◌, ◌-◌, ◌*◌, ◌/◌, ◌^◌, ◌≤◌, ◌<◌}
 use native.Mathlib.Omega.{arith}
 use lib.IntN.{ℤ, pos, negsuc}
-use lib.ListN.{length, get_or, drop, drop_of_length-le}
-use lib.Seq.{drop-cons}
+use lib.ListN.{length, get_or}
 use Rattle.whole.specs.Numbers.{Within}
 use Rattle.whole.specs.Sums.{All}
 use Rattle.whole.proofs.Sums.{all_at}
-use Rattle.plane.specs.Points.{Point, Triangle}
-use Rattle.plane.specs.Keys.{point}
-use Rattle.plane.specs.declared.Corner.{Corner}
 use Rattle.lent_little.specs.Ordered.{word_at}
-use Rattle.table.specs.Table.{corners, least, greatest, Frame, frame_of}
-use Rattle.table_check.specs.Framing.{frame_held, wider}
-use Rattle.sheet_form.specs.Numbers.{Sheet, members, point_numbers, triangle_numbers, member_numbers, counted}
+use Rattle.table.specs.Table.{corners}
+use Rattle.sheet_form.specs.Numbers.{Sheet, members, point_numbers, member_numbers, counted}
 use Rattle.sheet_form.specs.Form.{numbers_in}
 use Rattle.sheet_written.specs.Fits.{origin}
 use Rattle.sheet_written.specs.Given.{sheet_given}

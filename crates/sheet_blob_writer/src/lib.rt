@@ -9,6 +9,7 @@ ghost use Rattle.std.proofs.Common.{to_z};
 ghost use Rattle.whole.specs.Numbers.{Within};
 ghost use Rattle.plane.specs.Keys.{point, InRange};
 ghost use Rattle.lent.specs.Answered.{Answered};
+ghost use Rattle.lent.specs.Told.{number_of};
 ghost use Rattle.table_check.specs.Framing.{FrameInRange, frame_held};
 ghost use Rattle.sheet_coordinate.specs.Coordinate.{held_of};
 ghost use Rattle.sheet_form.specs.Numbers.{Sheet, members};
@@ -19,6 +20,7 @@ ghost use Rattle.sheet_framed.specs.Framed.{frame_on};
 ghost use Rattle.sheet_blob_written.specs.Given.{blob_given, write_blob};
 ghost use Rattle.sheet_blob_writer.specs.Corners.{point_in, CornerIn};
 
+use lent::{Reason, Refusal};
 use lent_fields::word;
 use plane::{Corner, OFFSET};
 use table_check::Frame;
@@ -28,10 +30,7 @@ fn held(b: u32) -> u32
     requires { Within 10_000_000 (to_z w32 b) }
     ensures { result ≡ held_of (to_z w32 b) }
 {
-    if b <= 10_000_000 {
-        return b + OFFSET;
-    }
-    b - 4_284_967_296
+    b.wrapping_add(OFFSET)
 }
 
 // A corner of the table, off the bytes of a sheet's numbers form.
@@ -46,24 +45,12 @@ fn corner(form: &[u8], i: usize) -> Corner
     }
 }
 
-// The frame of the table, from its last corner to its first.
+// The frame of the table.
 fn frame(form: &[u8]) -> Frame
     requires { (n : Sheet) × (sheet_given members form.now ≡ some n) }
     ensures { FrameInRange result × ((n : Sheet) → sheet_given members form.now ≡ some n → frame_held result ≡ frame_on n) }
 {
-    let mut i = 3 * word(form, 0, true) as usize - 1;
-    let last = corner(form, i);
-    let mut f = Frame {
-        left: last.x,
-        low: last.y,
-        right: last.x,
-        high: last.y,
-    };
-    while 0 < i {
-        i -= 1;
-        f = table_check::widened(f, corner(form, i));
-    }
-    f
+    table_check::frame_by(3 * word(form, 0, true) as usize, |i| corner(form, i))
 }
 
 // Writes the header's 40 bytes: `GP`, version 0, flags 3, the number, and the envelope of the frame.
@@ -81,20 +68,20 @@ fn header(number: u32, f: Frame, out: &mut [u8])
 
 // Writes the normal bytes of the blob that the numbers give, 42 where they give none. With no room for the header the sheet is tried with none at all,
 // so that 42 comes before 40.
-pub fn write(numbers: &[u8], out: &mut [u8]) -> u64
-    ensures { Answered (write_blob (blob_given members numbers.now)) out.old result out.new }
+pub fn write(numbers: &[u8], out: &mut [u8]) -> Result<u32, Refusal>
+    ensures { Answered (write_blob (blob_given members numbers.now)) out.old (number_of result) out.new }
 {
     if numbers.len() < 4 {
-        return 42;
+        return Err(Refusal {
+            reason: Reason::NoSheet,
+            item: 0,
+        });
     }
     if out.len() < 40 {
         return sheet_writer::write(&numbers[4..], &mut out[..0]);
     }
-    let r = sheet_writer::write(&numbers[4..], &mut out[40..]);
-    if r % 256 != 0 {
-        return r;
-    }
+    let size = sheet_writer::write(&numbers[4..], &mut out[40..])?;
     let f = frame(&numbers[4..]);
     header(word(numbers, 0, true), f, out);
-    r + 10_240
+    Ok(size + 40)
 }

@@ -8,6 +8,7 @@ use Prim.Native.Nat.{ℕ, ◌+◌, ◌^◌, ◌<◌}
 use lib.Dec.{T}
 use lib.ListN.{length, drop, length-append}
 use lib.Seq.{drop-append_seam}
+use Rattle.std.specs.Prelude.{Ok}
 use Rattle.whole.specs.Sums.{All}
 use Rattle.whole.proofs.Sums.{all-++}
 use Rattle.lent_little.specs.Ordered.{bytes, ordered}
@@ -19,12 +20,10 @@ use Rattle.sheet_written.specs.Fits.{sheet_fits}
 use Rattle.sheet_written.specs.Normal.{pattern_of, written}
 use Rattle.sheet_written.proofs.Patterns.{pattern_eight, pattern_double}
 use Rattle.sheet_written.proofs.Trip.{written_bytes, round_trip}
-use Rattle.sheet_envelope.specs.declared.Optional.TheVariants.{Present}
 use Rattle.sheet_envelope.specs.Envelope.{around, agrees}
 use Rattle.sheet_envelope.specs.Written.{envelope_bytes}
 use Rattle.sheet_envelope.proofs.Same.{around_same}
 use Rattle.sheet_blob.specs.declared.Opened.{Opened}
-use Rattle.sheet_blob.specs.declared.Opening.TheVariants.{Read}
 use Rattle.sheet_blob.specs.Blob.{encode_header, HeaderFits}
 use Rattle.sheet_blob.specs.Opening.{opening_of}
 use Rattle.sheet_blob.proofs.Grammar.{header_length, header_bytes, encoded_read}
@@ -43,7 +42,7 @@ forty number f = header_length (normal_header number f)
 header_fits : (number : ℕ) (f : Frame) → number < 2 ^ 32 → HeaderFits (normal_header number f)
 header_fits number f h = record { number = h; envelope = (pattern_eight f.left, pattern_eight f.right, pattern_eight f.low, pattern_eight f.high) }
 
-pub header_back : (b : Blob) → b.number < 2 ^ 32 → opening_of (written_blob b) ≡ Read (opened_of b)
+pub header_back : (b : Blob) → b.number < 2 ^ 32 → opening_of (written_blob b) ≡ Ok (opened_of b)
 header_back b h =
     let f = frame_on b.sheet in
     encoded_read (normal_header b.number f) (header_fits b.number f h) (written b.sheet)
@@ -63,7 +62,7 @@ blob_bytes b = let h = normal_header b.number (frame_on b.sheet) in all-++ (λ x
 
 -- A written blob is read back: its number, its sheet, and an envelope that equals the frame.
 pub record Back (limit : ℕ) (b : Blob) : Type 0 where
-  pub header : opening_of (written_blob b) ≡ Read (opened_of b)
+  pub header : opening_of (written_blob b) ≡ Ok (opened_of b)
   pub sheet : Reads limit (drop (opened_of b).at (written_blob b)) b.sheet
   pub envelope : agrees (opened_of b).envelope (frame_on b.sheet) ≡ true
 

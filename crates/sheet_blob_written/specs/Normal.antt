@@ -1,9 +1,8 @@
 -- The normal bytes of a blob: little-endian, envelope kind 1 with the frame of the sheet's table, the number kept, and the normal bytes of the sheet.
-use Rattle.std.specs.Prelude.{true, List, ℕ}
+use Rattle.std.specs.Prelude.{true, Some, List, ℕ}
 use Rattle.std.proofs.Math.Option.{some}
 use Rattle.table.specs.Table.{Frame}
 use Rattle.sheet_form.specs.Numbers.{Sheet}
-use Rattle.sheet_envelope.specs.declared.Optional.TheVariants.{Present}
 use Rattle.sheet_envelope.specs.Envelope.{around}
 use Rattle.sheet_framed.specs.Framed.{frame_on}
 use Rattle.sheet_written.specs.Normal.{pattern_of, written}
@@ -29,4 +28,4 @@ written_blob b = blob_of (normal_header b.number (frame_on b.sheet)) (written b.
 
 -- What is read of its header: the number kept, the sheet at 40, the envelope around the frame.
 abbrev pub opened_of : Blob → Opened
-opened_of b = record { number = b.number; at = 40; envelope = Present (around (frame_on b.sheet)) }
+opened_of b = record { number = b.number; at = 40; envelope = Some (around (frame_on b.sheet)) }

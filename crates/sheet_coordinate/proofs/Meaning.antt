@@ -8,7 +8,7 @@ use Rattle.whole.proofs.Ring.{solve}
 use Rattle.plane.specs.Corners.{millimetres}
 use Rattle.plane.specs.Keys.{Held}
 use Rattle.sheet_coordinate.specs.Coordinate.{Equals, held_of, coordinate_of}
-use Rattle.sheet_coordinate.specs.declared.Coordinate.TheVariants.{Whole, Not}
+use Rattle.std.specs.Prelude.{Some, None}
 use Rattle.sheet_coordinate.proofs.Doubles.{and_true, equal_cut}
 
 -- ---- held numbers
@@ -38,42 +38,42 @@ test x = leb (nat_abs (to_signed 63 x)) 10_000_000 && eq x (of_int binary64 (to_
 passed : (x : Float) → test x ≡ true → Exact x
 passed x h = let w = and_true _ _ h in (record { size = leb-true _ _ w.0 }, w.1)
 
-pub answered : (x : Float) → Exact x → coordinate_of x ≡ Whole (held_of (to_signed 63 x))
+pub answered : (x : Float) → Exact x → coordinate_of x ≡ Some (held_of (to_signed 63 x))
 unfolding coordinate_of
 answered x h = simp (le-leb (nat_abs (to_signed 63 x)) 10_000_000 h.0.size, h.1)
 
-pub refused : (x : Float) → (Exact x → ⊥) → coordinate_of x ≡ Not
+pub refused : (x : Float) → (Exact x → ⊥) → coordinate_of x ≡ None
 unfolding coordinate_of
 refused x none = go (test x) refl
   where
-    go : (b : Bool) → test x ≡ b → cond b (Whole (held_of (to_signed 63 x))) Not ≡ Not
+    go : (b : Bool) → test x ≡ b → cond b (Some (held_of (to_signed 63 x))) None ≡ None
     go true h = absurd (none (passed x h))
     go false h = refl
 
-only_exact : (x : Float) (h : ℕ) → coordinate_of x ≡ Whole h → Exact x × (held_of (to_signed 63 x) ≡ h)
+only_exact : (x : Float) (h : ℕ) → coordinate_of x ≡ Some h → Exact x × (held_of (to_signed 63 x) ≡ h)
 unfolding coordinate_of
 only_exact x h = go (test x) refl
   where
-    go : (b : Bool) → test x ≡ b → cond b (Whole (held_of (to_signed 63 x))) Not ≡ Whole h → Exact x × (held_of (to_signed 63 x) ≡ h)
+    go : (b : Bool) → test x ≡ b → cond b (Some (held_of (to_signed 63 x))) None ≡ Some h → Exact x × (held_of (to_signed 63 x) ≡ h)
     go true q e = (passed x q, cc e)
     go false q e = let z : ◌≡◌ {A = ℕ} 0 1 = cc in absurd (omega arith)
 
 -- ---- what it means
 
 -- The double is the coordinate n exactly if it equals n.
-pub coordinate_is : (x : Float) (n : ℤ) → Within 10_000_000 n → (coordinate_of x ≡ Whole (held_of n)) ↔ Equals x n
+pub coordinate_is : (x : Float) (n : ℤ) → Within 10_000_000 n → (coordinate_of x ≡ Some (held_of n)) ↔ Equals x n
 coordinate_is x n r = (to, from)
   where
-    to : coordinate_of x ≡ Whole (held_of n) → Equals x n
+    to : coordinate_of x ≡ Some (held_of n) → Equals x n
     to e =
         let w = only_exact x (held_of n) e in
         subst (Equals x) (sym (millimetres_held (to_signed 63 x) w.0.0) ∙ ap millimetres w.1 ∙ millimetres_held n r) w.0.1
 
-    from : Equals x n → coordinate_of x ≡ Whole (held_of n)
+    from : Equals x n → coordinate_of x ≡ Some (held_of n)
     from h = let c = equal_cut x n r h in rw c at (answered x (rw c r, rw c h))
 
 -- Whatever is answered is the held number of a coordinate that the double equals.
-pub coordinate_only : (x : Float) (h : ℕ) → coordinate_of x ≡ Whole h → Held h × Equals x (millimetres h) × (held_of (millimetres h) ≡ h)
+pub coordinate_only : (x : Float) (h : ℕ) → coordinate_of x ≡ Some h → Held h × Equals x (millimetres h) × (held_of (millimetres h) ≡ h)
 coordinate_only x h e =
     let w = only_exact x h e in
     let m : millimetres h ≡ to_signed 63 x = ap millimetres (sym w.1) ∙ millimetres_held (to_signed 63 x) w.0.0 in
@@ -81,21 +81,21 @@ coordinate_only x h e =
 
 -- ---- document 01's cases: NaN, infinities, negative zero, a fraction
 
-pub nan_refused : coordinate_of nan ≡ Not
+pub nan_refused : coordinate_of nan ≡ None
 unfolding coordinate_of to_signed eq
 nan_refused = refl
 
-pub infinite_refused : (s : Bool) → coordinate_of (inf s) ≡ Not
+pub infinite_refused : (s : Bool) → coordinate_of (inf s) ≡ None
 unfolding coordinate_of to_signed eq
 infinite_refused true = refl
 infinite_refused false = refl
 
 -- The pattern of -0.0.
-pub minus_zero : coordinate_of (of_bits binary64 (2 ^ 63)) ≡ Whole 10_000_000
+pub minus_zero : coordinate_of (of_bits binary64 (2 ^ 63)) ≡ Some 10_000_000
 unfolding coordinate_of to_signed eq of_int of_bits
 minus_zero = refl
 
 -- The pattern of 3.5.
-pub fraction_refused : coordinate_of (of_bits binary64 0x400c000000000000) ≡ Not
+pub fraction_refused : coordinate_of (of_bits binary64 0x400c000000000000) ≡ None
 unfolding coordinate_of to_signed eq of_int of_bits
 fraction_refused = refl

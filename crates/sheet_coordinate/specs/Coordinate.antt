@@ -1,10 +1,8 @@
 -- "A double is a coordinate if it is a whole number from -10,000,000 to 10,000,000 (millimetres). Negative zero counts as 0. NaN,
 -- infinities and fractions are refused. The whole number then equals the double exactly."
-use Rattle.std.specs.Prelude.{◌≡◌, ℕ, true, cond, ◌&&◌, ℤ, pos, ◌+ℤ◌, nat_le, unsigned_abs, Float}
+use Rattle.std.specs.Prelude.{◌≡◌, Option, Some, None, ℕ, true, cond, ◌&&◌, ℤ, pos, ◌+ℤ◌, nat_le, unsigned_abs, Float}
 use Rattle.std.specs.Float.{binary64}
 use Rattle.std.specs.Float.Ieee.{eq, of_int, to_signed}
-use Rattle.sheet_coordinate.specs.declared.Coordinate.{Coordinate}
-use Rattle.sheet_coordinate.specs.declared.Coordinate.TheVariants.{Whole, Not}
 
 -- The double equals the whole number, as IEEE 754 compares: -0 equals 0, a NaN equals nothing.
 abbrev pub Equals : Float → ℤ → Type 0
@@ -16,5 +14,5 @@ held_of n = unsigned_abs (n +ℤ pos 10_000_000)
 
 -- The double cut toward zero, as it is held, if that whole number is from -10,000,000 to 10,000,000 and the double equals it; else not
 -- a coordinate.
-unfoldable pub coordinate_of : Float → Coordinate
-coordinate_of x = let n = to_signed 63 x in cond (nat_le (unsigned_abs n) 10_000_000 && eq x (of_int binary64 n)) (Whole (held_of n)) Not
+unfoldable pub coordinate_of : Float → Option ℕ
+coordinate_of x = let n = to_signed 63 x in cond (nat_le (unsigned_abs n) 10_000_000 && eq x (of_int binary64 n)) (Some (held_of n)) None

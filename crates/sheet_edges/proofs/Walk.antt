@@ -50,6 +50,11 @@ pub record Going {A : Type 0} (f : A → List ℤ) (e : List A → List Edge) (n
   pub stored : Stored from₀ to₀ fill starts ends from to next
   pub reads : (l : List A) (rest : List ℤ) → NumbersAt (counted f) numbers at l rest → Left f e numbers here left (pairs starts ends) l rest
 
+-- The same places, counted otherwise.
+pub going_as : {A : Type 0} {f : A → List ℤ} {e : List A → List Edge} {numbers : List ℕ} {at fill : ℕ} {from₀ to₀ from to : List ℕ} {here next left here' next' left' : ℕ}
+    → Going f e numbers at fill from₀ to₀ from to here next left → here ≡ here' → next ≡ next' → left ≡ left' → Going f e numbers at fill from₀ to₀ from to here' next' left'
+going_as w p q r = rw (p, q, r) at w
+
 -- A counted list: its count stands at the place, and behind it its things, one behind the other.
 pub count_first : {A : Type 0} (f : A → List ℤ) (numbers : List ℕ) (at : ℕ) (l : List A) (rest : List ℤ) → NumbersAt (counted f) numbers at l rest
     → (at < length numbers) × (get_or numbers at 0 ≡ length l + 10_000_000) × (map millimetres (drop (at + 1) numbers) ≡ flat_map f l ++ rest)
@@ -210,19 +215,19 @@ module _ {numbers : List ℕ} {at fill : ℕ} {from₀ to₀ from to : List ℕ}
           }
 
   -- At most one point is left, from which no edge goes.
-  pub ring_done : Going point_numbers edges numbers at fill from₀ to₀ from to here next left → left ≤ 1
-      → Lays ring_numbers edges numbers at fill from₀ to₀ from to (record { at = here + 2 * left; fill = next })
+  pub ring_done : {r : Laid} → Going point_numbers edges numbers at fill from₀ to₀ from to here next left → left ≤ 1 → r.at ≡ here + 2 * left → r.fill ≡ next
+      → Lays ring_numbers edges numbers at fill from₀ to₀ from to r
   unfolding flat_map
-  ring_done w h =
-      record { starts = w.starts; ends = w.ends; stored = w.stored; reads = λ l rest s. let x = w.reads l rest s in go l rest x.todo x.many x.edges x.numbers_at x.within }
+  ring_done {r} w h place all =
+      record { starts = w.starts; ends = w.ends; stored = rw all w.stored; reads = λ l rest s. let x = w.reads l rest s in go l rest x.todo x.many x.edges x.numbers_at x.within }
     where
       go : (l : List Point) (rest : List ℤ) (todo : List Point) → length todo ≡ left → pairs w.starts w.ends ++ edges todo ≡ edges l → map millimetres (drop here numbers) ≡ flat_map point_numbers todo ++ rest
-          → here ≤ length numbers → (pairs w.starts w.ends ≡ edges l) × (map millimetres (drop (here + 2 * left) numbers) ≡ rest) × (here + 2 * left ≤ length numbers)
+          → here ≤ length numbers → (pairs w.starts w.ends ≡ edges l) × (map millimetres (drop r.at numbers) ≡ rest) × (r.at ≤ length numbers)
       go l rest [] m e s b =
-          let k : here + 2 * left ≡ here = omega arith in
+          let k : r.at ≡ here = omega arith in
           (sym (append-nil (pairs w.starts w.ends)) ∙ e, ap (λ n. map millimetres (drop n numbers)) k ∙ s, omega arith)
       go l rest (p ∷ []) m e s b =
-          let k : here + 2 * left ≡ here + 2 = omega arith in
+          let k : r.at ≡ here + 2 = omega arith in
           let q = point_first numbers here p rest s in
           (sym (append-nil (pairs w.starts w.ends)) ∙ e, ap (λ n. map millimetres (drop n numbers)) k ∙ q.2, omega (arith, q.0))
       go l rest (p ∷ q ∷ t) m e s b = absurd (omega arith)

@@ -36,19 +36,16 @@ fn ring(numbers: &[u32], at: usize, from: &mut [u64], to: &mut [u64], fill: usiz
     requires { Room ring_numbers edges numbers.now at fill from.old to.old }
     ensures { Lays ring_numbers edges numbers.now at fill from.old to.old from.new to.new result }
 {
-    let mut here = at + 1;
-    let mut next = fill;
-    let mut left = numbers[at] - OFFSET;
-    while 1 < left {
-        from[next] = point(numbers, here);
-        here += 2;
-        to[next] = point(numbers, here);
-        next += 1;
-        left -= 1;
+    let points = (numbers[at] - OFFSET) as usize;
+    let edges = points.saturating_sub(1);
+    for k in 0..edges {
+        let here = at + 1 + 2 * k;
+        from[fill + k] = point(numbers, here);
+        to[fill + k] = point(numbers, here + 2);
     }
     Laid {
-        at: here + 2 * left as usize,
-        fill: next,
+        at: at + 1 + 2 * points,
+        fill: fill + edges,
     }
 }
 
@@ -57,14 +54,9 @@ fn part(numbers: &[u32], at: usize, from: &mut [u64], to: &mut [u64], fill: usiz
     requires { Room part_numbers (flat_map edges) numbers.now at fill from.old to.old }
     ensures { Lays part_numbers (flat_map edges) numbers.now at fill from.old to.old from.new to.new result }
 {
-    let mut laid = Laid {
-        at: at + 1,
-        fill: fill,
-    };
-    let mut left = numbers[at] - OFFSET;
-    while 0 < left {
+    let mut laid = Laid { at: at + 1, fill };
+    for _ in 0..numbers[at] - OFFSET {
         laid = ring(numbers, laid.at, from, to, laid.fill);
-        left -= 1;
     }
     laid
 }
@@ -78,10 +70,8 @@ pub fn polygon(numbers: &[u32], at: usize, from: &mut [u64], to: &mut [u64]) -> 
         at: at + 1,
         fill: 0,
     };
-    let mut left = numbers[at] - OFFSET;
-    while 0 < left {
+    for _ in 0..numbers[at] - OFFSET {
         laid = part(numbers, laid.at, from, to, laid.fill);
-        left -= 1;
     }
     laid
 }
@@ -93,9 +83,7 @@ pub fn corners(numbers: &[u32], keys: &mut [u64])
         → triangles_of keys.new ≡ table)
         × All Key keys.new × (length keys.new ≡ length keys.old) }
 {
-    let mut i: usize = 0;
-    while i < keys.len() {
-        keys[i] = point(numbers, 1 + 2 * i);
-        i += 1;
+    for (i, key) in keys.iter_mut().enumerate() {
+        *key = point(numbers, 1 + 2 * i);
     }
 }

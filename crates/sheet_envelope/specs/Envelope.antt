@@ -1,13 +1,11 @@
 -- The envelope: the least x, the greatest x, the least y and the greatest y, as doubles, and when it equals a frame as numbers.
-use Rattle.std.specs.Prelude.{Bool, true, ◌&&◌, List, ℕ, ◌+◌, Float, ℤ}
+use Rattle.std.specs.Prelude.{Bool, true, ◌&&◌, Option, None, Some, List, ℕ, ◌+◌, Float, ℤ}
 use Rattle.std.specs.Float.{binary64}
 use Rattle.std.specs.Float.Ieee.{eq, of_int}
 use Rattle.lent_little.specs.Ordered.{double_at}
 use Rattle.table.specs.Table.{Frame}
 use Rattle.sheet_coordinate.specs.Coordinate.{Equals}
 use Rattle.sheet_envelope.specs.declared.Envelope.{Envelope}
-use Rattle.sheet_envelope.specs.declared.Optional.{Optional}
-use Rattle.sheet_envelope.specs.declared.Optional.TheVariants.{Absent, Present}
 
 -- The four doubles that stand at a place, one behind the other, 8 bytes each.
 abbrev pub envelope_at : Bool → List ℕ → ℕ → Envelope
@@ -43,6 +41,6 @@ pub record Same (e : Envelope) (f : Frame) : Type 0 where
   pub high : Equals e.high f.high
 
 -- The envelope equals the frame where there is one.
-abbrev pub agrees : Optional → Frame → Bool
-agrees Absent f = true
-agrees (Present e) f = same_frame e f
+abbrev pub agrees : Option Envelope → Frame → Bool
+agrees None f = true
+agrees (Some e) f = same_frame e f

@@ -8,26 +8,19 @@ ghost use Rattle.std.specs.Float.Ieee.{of_int};
 ghost use Rattle.std.proofs.lemmas.List.Edits.{sets};
 ghost use Rattle.plane.specs.Corners.{millimetres};
 ghost use Rattle.table_check.specs.Framing.{frame_held};
-ghost use Rattle.sheet_envelope.specs.Envelope.{envelope_at, around, same_frame, agrees};
+ghost use Rattle.sheet_envelope.specs.Envelope.{envelope_at, around, agrees};
 ghost use Rattle.sheet_envelope.specs.Written.{envelope_bytes};
 
 use plane::OFFSET;
 use table_check::Frame;
 
 // The least x, the greatest x, the least y and the greatest y.
-#[derive(Clone, Copy)]
+#[derive(Clone, Copy, PartialEq)]
 pub struct Envelope {
     pub left: f64,
     pub right: f64,
     pub low: f64,
     pub high: f64,
-}
-
-// The envelope that a header has, or none.
-#[derive(Clone, Copy)]
-pub enum Optional {
-    Absent,
-    Present(Envelope),
 }
 
 // The envelope of the 32 bytes at a place.
@@ -73,29 +66,10 @@ pub fn of_frame(f: Frame) -> Envelope
     }
 }
 
-// The envelope equals the frame as numbers: -0 equals 0, a NaN equals nothing.
-fn same_frame(e: Envelope, f: Frame) -> bool
-    ensures { result ≡ same_frame e (frame_held f) }
-{
-    let b = of_frame(f);
-    if e.left != b.left {
-        return false;
-    }
-    if e.right != b.right {
-        return false;
-    }
-    if e.low != b.low {
-        return false;
-    }
-    e.high == b.high
-}
-
-// An envelope that is there equals the frame.
-pub fn agrees(o: Optional, f: Frame) -> bool
+// An envelope that is there equals the frame, as numbers: -0 equals 0, a NaN equals nothing.
+#[tactic(auto, unfolding(crate::specs::Envelope::same_frame))]
+pub fn agrees(o: Option<Envelope>, f: Frame) -> bool
     ensures { result ≡ agrees o (frame_held f) }
 {
-    match o {
-        Optional::Absent => true,
-        Optional::Present(e) => same_frame(e, f),
-    }
+    o.is_none_or(|e| e == of_frame(f))
 }

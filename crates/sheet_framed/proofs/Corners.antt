@@ -1,20 +1,16 @@
--- Where the coordinates of a table's corners stand among numbers, and the frame from the last corner to the first. The idea: the numbers form begins with the
--- triangle count and the coordinates of the corners; one corner more widens the frame. Assumes nothing.
-use mathlib.Core.Path.{◌≡◌, refl, sym, ◌∙◌, ap, ap₂}
+-- Where the coordinates of a table's corners stand among numbers. The idea: the numbers form begins with the triangle count and the coordinates of the
+-- corners. Assumes nothing.
+use mathlib.Core.Path.{◌≡◌, refl, ◌∙◌, ap}
 use mathlib.Core.List.{List, [], ◌∷◌, ◌++◌, flat_map, map}
 use Prim.Native.Nat.{ℕ, zero, suc, ◌+◌, ◌*◌, ◌≤◌, ◌<◌}
 use native.Mathlib.Omega.{arith}
 use lib.IntN.{ℤ, pos}
-use lib.ListN.{length, get_or, drop, length-map, drop_of_length-le}
-use lib.Seq.{drop-cons}
-use Rattle.whole.specs.Sums.{All}
+use lib.ListN.{length, get_or, length-map}
 use Rattle.whole.proofs.Sums.{all_at}
 use Rattle.plane.specs.Points.{Point, Triangle}
 use Rattle.plane.specs.Corners.{millimetres}
 use Rattle.plane.specs.Keys.{point, Held, InRange}
-use Rattle.plane.specs.declared.Corner.{Corner}
-use Rattle.table.specs.Table.{corners, least, greatest, Frame, frame_of}
-use Rattle.table_check.specs.Framing.{frame_held, wider}
+use Rattle.table.specs.Table.{corners}
 use Rattle.sheet_form.specs.Numbers.{Sheet, point_numbers, triangle_numbers, member_numbers, counted}
 use Rattle.sheet.specs.Held.{SheetHeld}
 use Rattle.sheet_edges.specs.Standing.{corner_at}
@@ -86,14 +82,3 @@ module _ {limit : ℕ} (n : Sheet) (numbers : List ℕ) (held : SheetHeld limit 
         let x = at_place (2 * i + 1) (2 * i) (omega arith) (omega (arith, long)) ∙ corner_stands.x in
         let y = at_place (2 * i + 1 + 1) (2 * i + 1) (omega arith) (omega (arith, long)) ∙ corner_stands.y in
         λ j. record { x = x j; y = y j }
-
--- ---- the frame from a corner on
-pub frame_last : (l : List Point) (i : ℕ) → length l ≡ suc i → (c : Corner) → point c ≡ get_or l i origin → frame_held (record { left = c.x; low = c.y; right = c.x; high = c.y }) ≡ frame_of (drop i l)
-unfolding least greatest frame_of
-frame_last l i h c e =
-    let k : length l ≤ suc i = omega arith in
-    ap (λ p. record { left = p.x; low = p.y; right = p.x; high = p.y }) e ∙ sym (ap frame_of (drop-cons l i origin (omega arith) ∙ ap (λ m. get_or l i origin ∷ m) (drop_of_length-le l k)))
-
-pub frame_more : (l : List Point) (i j : ℕ) → suc j ≡ i → i < length l → (c : Corner) → point c ≡ get_or l j origin → {f : Frame} → f ≡ frame_of (drop i l) → wider (point c) f ≡ frame_of (drop j l)
-unfolding least greatest frame_of
-frame_more l i j e h c q r = ap₂ wider q r ∙ sym (ap frame_of (drop-cons l j origin (omega arith)) ∙ rw (← e, drop-cons l (suc j) origin (omega arith)) refl)

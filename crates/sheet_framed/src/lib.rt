@@ -10,7 +10,7 @@ ghost use Rattle.sheet_envelope.specs.Envelope.{agrees};
 ghost use Rattle.sheet_framed.specs.Framed.{frame_on};
 
 use plane::{Corner, OFFSET};
-use sheet_envelope::Optional;
+use sheet_envelope::Envelope;
 use table_check::Frame;
 
 // Corner i of the table, counted from 0.
@@ -25,33 +25,18 @@ fn corner(numbers: &[u32], i: usize) -> Corner
     }
 }
 
-// The frame of the table, from its last corner to its first.
+// The frame of the table.
 fn frame(numbers: &[u32]) -> Frame
     requires { (limit : ℕ) × (n : Sheet) × SheetHeld limit n numbers.now }
     ensures { FrameInRange result × ((limit : ℕ) (n : Sheet) → SheetHeld limit n numbers.now → frame_held result ≡ frame_on n) }
 {
-    let mut i = 3 * (numbers[0] - OFFSET) as usize - 1;
-    let last = corner(numbers, i);
-    let mut f = Frame {
-        left: last.x,
-        low: last.y,
-        right: last.x,
-        high: last.y,
-    };
-    while 0 < i {
-        i -= 1;
-        f = table_check::widened(f, corner(numbers, i));
-    }
-    f
+    table_check::frame_by(3 * (numbers[0] - OFFSET) as usize, |i| corner(numbers, i))
 }
 
 // The envelope, where there is one, equals the frame of the table.
-pub fn framed(numbers: &[u32], envelope: Optional) -> bool
+pub fn framed(numbers: &[u32], envelope: Option<Envelope>) -> bool
     requires { (limit : ℕ) × (n : Sheet) × SheetHeld limit n numbers.now }
     ensures { (limit : ℕ) (n : Sheet) → SheetHeld limit n numbers.now → result ≡ agrees envelope (frame_on n) }
 {
-    match envelope {
-        Optional::Absent => true,
-        Optional::Present(e) => sheet_envelope::agrees(Optional::Present(e), frame(numbers)),
-    }
+    envelope.is_none() || sheet_envelope::agrees(envelope, frame(numbers))
 }

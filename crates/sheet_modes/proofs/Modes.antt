@@ -20,7 +20,7 @@ use Rattle.sheet_written.specs.Fits.{sheet_fits}
 use Rattle.sheet_written.proofs.Held.{read_sheet_is}
 use Rattle.sheet_written.proofs.Trip.{read_written}
 use Rattle.sheet_turned.proofs.Trip.{turned_fits}
-use Rattle.sheet_modes.specs.Modes.{Edition, present, older, edited, Form, plain, blob, Mode, mode_of, around, behind, found, header_by, read_by}
+use Rattle.sheet_modes.specs.Modes.{Edition, present, older, edited, plain, blob, Mode, mode_of, around, behind, found, header_by, read_by}
 
 -- What holds of all bytes holds of those behind.
 pub all_behind : (P : ℕ → Type 0) (o : Option Opened) (s : List ℕ) → All P s → All P (behind o s)

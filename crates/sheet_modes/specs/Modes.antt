@@ -1,17 +1,16 @@
 -- How bytes are read by the mode that is asked: as a sheet by itself or as a GeoPackage geometry blob, of the present edition or of the older one, whose rings are
 -- turned.
-use Rattle.std.specs.Prelude.{Bool, true, cond, List, ℕ, ◌+◌, eqb, drop}
+use Rattle.std.specs.Prelude.{Bool, true, cond, Ok, Err, List, ℕ, ◌+◌, eqb, drop}
 use Rattle.std.proofs.Math.Option.{Option, none, some}
 use Rattle.lent.specs.Stages.{Answer, value, refused, and_then}
+use Rattle.lent.specs.Refusals.{refused_as}
 use Rattle.sheet_form.specs.Numbers.{Sheet, members}
 use Rattle.sheet.specs.Reading.{Reading, reading_of}
 use Rattle.sheet.specs.Read.{read_sheet}
 use Rattle.sheet_envelope.specs.Envelope.{agrees}
 use Rattle.sheet_framed.specs.Framed.{frame_on}
 use Rattle.sheet_blob.specs.declared.Opened.{Opened}
-use Rattle.sheet_blob.specs.declared.Opening.{Opening}
-use Rattle.sheet_blob.specs.declared.Opening.TheVariants.{Read, Refused}
-use Rattle.sheet_blob.specs.Opening.{opening_of}
+use Rattle.sheet_blob.specs.Opening.{Opening, opening_of}
 use Rattle.sheet_turned.specs.Turned.{turned}
 
 -- The edition that a sheet is of, and the form that its bytes have: the sheet by itself, or a blob with the sheet in it.
@@ -43,8 +42,8 @@ edited older n = turned n
 
 -- What stands around the sheet: nothing, or the header of a blob. A refusal of the header has item 0.
 abbrev pub headed : Opening → Answer (Option Opened)
-headed (Read r) = value (some r)
-headed (Refused code position) = refused code 0
+headed (Ok r) = value (some r)
+headed (Err f) = refused_as (record { reason = f.refusal.reason; item = 0 })
 
 abbrev pub around : Form → List ℕ → Answer (Option Opened)
 around plain s = value none
@@ -86,8 +85,8 @@ abbrev pub fault_at : ℕ → Reading → ℕ
 fault_at at r = cond (eqb r.code 0) 0 (at + r.position)
 
 abbrev pub header_position : Opening → ℕ
-header_position (Read r) = 0
-header_position (Refused code position) = position
+header_position (Ok r) = 0
+header_position (Err f) = f.position
 
 abbrev pub header_fault : Form → List ℕ → ℕ
 header_fault plain s = 0

@@ -1,11 +1,13 @@
 -- A ring's points put in reverse order where they stand: Turning is the invariant of the loop.
 -- The idea: the points put in place at either end, and between them those left in reverse order, are the ring in reverse order. Assumes nothing.
-use mathlib.Core.Path.{◌≡◌, refl, sym, ◌∙◌, ap, ap₂}
+use mathlib.Core.Path.{◌≡◌, refl, sym, ◌∙◌, ap, ap₂, subst}
 use mathlib.Core.List.{List, [], ◌∷◌, ◌++◌, map, flat_map, reverse, reverse-cons, reverse-append, append_assoc, append-nil}
 use Prim.Native.Nat.{ℕ, ◌+◌, ◌-◌, ◌*◌, ◌≤◌, ◌<◌}
 use native.Mathlib.Omega.{arith}
 use lib.IntN.{ℤ, pos}
 use lib.ListN.{length, get_or, length-append, length-reverse}
+use Rattle.std.specs.List.{swap}
+use Rattle.std.proofs.lemmas.List.Edits.{swap_is}
 use Rattle.whole.specs.Sums.{All}
 use Rattle.whole.proofs.Sums.{flat_map-++}
 use Rattle.plane.specs.Points.{Point}
@@ -15,7 +17,7 @@ use Rattle.plane.specs.Keys.{Held}
 use Rattle.plane_rings.specs.Closed.{RingLimits}
 use Rattle.sheet_form.specs.Numbers.{point_numbers, ring_numbers}
 use Rattle.sheet_sums.proofs.Summing.{points_length}
-use Rattle.sheet_older.specs.Standing.{Stands, Turns, swapped}
+use Rattle.sheet_older.specs.Standing.{Stands, Place, Turns, swapped}
 use Rattle.sheet_older.proofs.Places.{stands_length, stands_as, stands_past, stands_count, swapped_length, swapped_held, swapped_is}
 
 -- The points left from place i to place j: those at either end are in place, and those between them in reverse order make up the ring in reverse order.
@@ -189,9 +191,12 @@ module _ {front : List ℤ} {r : Ring} {rest : List ℤ} {numbers : List ℕ} {i
 
 module _ {numbers₀ : List ℕ} {at : ℕ} {numbers : List ℕ} {i j : ℕ} (w : Turning numbers₀ at numbers i j) where
   -- Both points that are exchanged stand there.
-  pub turning_room : (front : List ℤ) (r : Ring) (rest : List ℤ) → RingLimits r → Stands numbers₀ at front (ring_numbers r ++ rest) → i < j
-      → (i + 3 < length numbers) × (j + 1 < length numbers) × (i + 2 ≤ j)
-  turning_room front r rest fits s h = left_room (w.reads front r rest fits s) h
+  pub turning_room : Place ring_numbers RingLimits numbers₀ at → i < j → (i + 3 < length numbers) × (j + 1 < length numbers) × (i + 2 ≤ j)
+  turning_room p h = left_room (w.reads p.front p.thing p.rest p.fits p.stands) h
+
+  -- The same places, counted otherwise.
+  pub turning_as : {i' j' : ℕ} → i ≡ i' → j ≡ j' → Turning numbers₀ at numbers i' j'
+  turning_as e f = rw (e, f) at w
 
   pub turning_more : i < j → i + 3 < length numbers → j + 1 < length numbers → Turning numbers₀ at (swapped (swapped numbers i j) (i + 1) (j + 1)) (i + 2) (j - 2)
   turning_more h k l =
@@ -214,3 +219,17 @@ module _ {numbers₀ : List ℕ} {at : ℕ} {numbers : List ℕ} {i j : ℕ} (w 
               place = omega (arith, length-append front (ring_numbers (reverse r)), points_length (reverse r), length-reverse r, s.place, c.1);
             };
       }
+
+-- Both numbers of the first and of the last of the points left are exchanged by the library.
+pub turning_exchanged : {numbers₀ : List ℕ} {at : ℕ} {numbers numbers₁ numbers₂ : List ℕ} {i j : ℕ} → Turning numbers₀ at numbers i j → i < j → i + 3 < length numbers → j + 1 < length numbers
+    → numbers₁ ≡ swap numbers i j → numbers₂ ≡ swap numbers₁ (i + 1) (j + 1) → Turning numbers₀ at numbers₂ (i + 2) (j - 2)
+turning_exchanged {numbers₀} {at} {numbers} {numbers₁} {numbers₂} {i} {j} w h k l e f =
+    subst (λ n. Turning numbers₀ at n (i + 2) (j - 2)) (sym last) (turning_more w h k l)
+  where
+    first : numbers₁ ≡ swapped numbers i j
+    first = e ∙ sym (swap_is numbers i j 0 (omega arith) (omega arith))
+
+    last : numbers₂ ≡ swapped (swapped numbers i j) (i + 1) (j + 1)
+    last =
+        f ∙ ap (λ n. swap n (i + 1) (j + 1)) first
+        ∙ sym (swap_is (swapped numbers i j) (i + 1) (j + 1) 0 (omega (arith, swapped_length numbers i j)) (omega (arith, swapped_length numbers i j)))

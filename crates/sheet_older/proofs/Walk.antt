@@ -30,6 +30,11 @@ pub record Going {A : Type 0} (f : A → List ℤ) (g h : List A → List A) (Fi
   pub long : length numbers ≡ length numbers₀
   pub reads : (front : List ℤ) (l : List A) (rest : List ℤ) → All Fit l → Stands numbers₀ at front (counted f l ++ rest) → Left f g h Fit front l rest numbers here left
 
+-- As many things left, counted otherwise.
+pub going_as : {A : Type 0} {f : A → List ℤ} {g h : List A → List A} {Fit : A → Type 0} {numbers₀ : List ℕ} {at : ℕ} {numbers : List ℕ} {here left left' : ℕ}
+    → Going f g h Fit numbers₀ at numbers here left → left ≡ left' → Going f g h Fit numbers₀ at numbers here left'
+going_as w e = rw e at w
+
 -- Nothing is turned.
 pub going_begin : {A : Type 0} (f : A → List ℤ) (g : List A → List A) (Fit : A → Type 0) (numbers : List ℕ) (at : ℕ) → All Held numbers
     → Going f g g Fit numbers at numbers (at + 1) (get_or numbers at 0 - 10_000_000)

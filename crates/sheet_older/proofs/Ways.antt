@@ -1,7 +1,7 @@
 -- A ring that goes the wrong way is turned, another stays: by its double area, and by whether it is a first ring. Assumes nothing.
 use mathlib.Core.Path.{◌≡◌, refl, sym, ◌∙◌, ap, subst}
 use mathlib.Core.Bool.{Bool, true, false, cond}
-use mathlib.Core.List.{List, ◌++◌, reverse}
+use mathlib.Core.List.{List, [], ◌∷◌, ◌++◌, map, reverse}
 use Prim.Native.Nat.{ℕ, ◌+◌, ◌-◌, ◌*◌}
 use native.Mathlib.Omega.{arith}
 use lib.IntN.{ℤ, pos}
@@ -13,12 +13,24 @@ use Rattle.plane.specs.Members.{Ring}
 use Rattle.plane.specs.Keys.{Held}
 use Rattle.plane_rings.specs.Rings.{ring_area}
 use Rattle.plane_rings.specs.Closed.{RingLimits}
-use Rattle.plane_rings.specs.Turning.{negative, positive, outward, inward}
+use Rattle.plane_rings.specs.Turning.{negative, positive, outward, inward, turn_polygon}
 use Rattle.sheet_form.specs.Numbers.{point_numbers, ring_numbers}
 use Rattle.sheet_sums.specs.Standing.{RingAt}
 use Rattle.sheet_sums.proofs.Summing.{points_length}
 use Rattle.sheet_older.specs.Standing.{Stands, Turns, turn_ring}
 use Rattle.sheet_older.proofs.Places.{stands_behind, stands_count, stands_past}
+
+-- The rings left, as they are turned: with a first ring among them, or all later ones.
+abbrev pub onward : Bool → List Ring → List Ring
+onward first l = cond first (turn_polygon l) (map inward l)
+
+pub onward_one : (first : Bool) (r : Ring) (l : List Ring) → onward first (r ∷ l) ≡ turn_ring first r ∷ onward false l
+onward_one true r l = refl
+onward_one false r l = refl
+
+pub onward_none : (first : Bool) → onward first [] ≡ []
+onward_none true = refl
+onward_none false = refl
 
 -- What the test says of the ring.
 pub turned_yes : (first : Bool) (r : Ring) → cond first (negative r) (positive r) ≡ true → turn_ring first r ≡ reverse r

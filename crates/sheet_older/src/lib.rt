@@ -10,33 +10,22 @@ ghost use Rattle.sheet_form.specs.Numbers.{Sheet, ring_numbers, part_numbers, me
 ghost use Rattle.sheet.specs.Held.{SheetHeld};
 ghost use Rattle.sheet_turned.specs.Rings.{RingsFit};
 ghost use Rattle.sheet_turned.specs.Turned.{turned};
-ghost use Rattle.sheet_older.specs.Standing.{Place, Turns, turn_ring, swapped};
+ghost use Rattle.sheet_older.specs.Standing.{Place, Turns, turn_ring};
 
 use plane::OFFSET;
-
-// Exchanges the numbers at two places.
-fn swap(numbers: &mut [u32], i: usize, j: usize)
-    requires { (i < length numbers.old) × (j < length numbers.old) }
-    ensures { numbers.new ≡ swapped numbers.old i j }
-{
-    let n = numbers[i];
-    numbers[i] = numbers[j];
-    numbers[j] = n;
-}
 
 // Turns the ring at a place round: its points in reverse order. The place behind it.
 fn turn_round(numbers: &mut [u32], at: usize) -> usize
     requires { Place ring_numbers RingLimits numbers.old at }
     ensures { Turns ring_numbers reverse RingLimits numbers.old at numbers.new result }
 {
-    let next = at + 1 + 2 * (numbers[at] - OFFSET) as usize;
-    let mut i = at + 1;
-    let mut j = next - 2;
-    while i < j {
-        swap(numbers, i, j);
-        swap(numbers, i + 1, j + 1);
-        i += 2;
-        j -= 2;
+    let points = (numbers[at] - OFFSET) as usize;
+    let next = at + 1 + 2 * points;
+    for k in 0..points / 2 {
+        let i = at + 1 + 2 * k;
+        let j = next - 2 - 2 * k;
+        numbers.swap(i, j);
+        numbers.swap(i + 1, j + 1);
     }
     next
 }
@@ -69,12 +58,8 @@ fn part(numbers: &mut [u32], at: usize) -> usize
     ensures { Turns part_numbers turn_polygon (All RingLimits) numbers.old at numbers.new result }
 {
     let mut here = at + 1;
-    let mut left = numbers[at] - OFFSET;
-    let mut first = true;
-    while 0 < left {
-        here = ring(numbers, here, first);
-        first = false;
-        left -= 1;
+    for i in 0..numbers[at] - OFFSET {
+        here = ring(numbers, here, i == 0);
     }
     here
 }
@@ -85,10 +70,8 @@ fn polygon(numbers: &mut [u32], at: usize) -> usize
     ensures { Turns member_numbers turn_member (All (All RingLimits)) numbers.old at numbers.new result }
 {
     let mut here = at + 1;
-    let mut left = numbers[at] - OFFSET;
-    while 0 < left {
+    for _ in 0..numbers[at] - OFFSET {
         here = part(numbers, here);
-        left -= 1;
     }
     here
 }
@@ -101,9 +84,7 @@ pub fn turn(numbers: &mut [u32])
 {
     let at = 1 + 6 * (numbers[0] - OFFSET) as usize;
     let mut here = at + 1;
-    let mut left = numbers[at] - OFFSET;
-    while 0 < left {
+    for _ in 0..numbers[at] - OFFSET {
         here = polygon(numbers, here);
-        left -= 1;
     }
 }

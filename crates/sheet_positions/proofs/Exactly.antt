@@ -4,12 +4,12 @@
 use mathlib.Core.Path.{◌≡◌, refl, sym, ◌∙◌, ap, subst}
 use mathlib.Core.Logic.{◌↔◌, ◌⊎◌, inl, inr}
 use mathlib.Core.List.{List}
-use Prim.Native.Nat.{ℕ, zero, suc, ◌+◌, ◌≤◌, ◌<◌}
+use Prim.Native.Nat.{ℕ, zero, suc, ◌≤◌}
 use native.Mathlib.Omega.{arith}
 use lib.ListN.{length}
 use Rattle.wkb.specs.declared.Cursor.{Cursor}
 use Rattle.wkb.specs.Steps.{start}
-use Rattle.wkb.specs.Faults.{Fault, point_cut, ring_cut, ring_count, past, surplus, order_cut, order, type_cut, type, count_cut, count}
+use Rattle.wkb.specs.Faults.{point_cut, ring_cut, ring_count, past, surplus, order_cut, order, type_cut, type, count_cut, count}
 use Rattle.sheet.specs.Reading.{Taken, Reading, Turn, on, over, nothing, turn, run, reading_of}
 use Rattle.sheet.specs.Going.{reading}
 use Rattle.sheet.proofs.Run.{Goes, turn_moved, enough, reading_turns, reading_starts}

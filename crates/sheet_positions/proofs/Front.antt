@@ -1,28 +1,27 @@
 -- The bytes before the first surplus one are read to the end, with the same numbers.
 -- The idea: a step that leads on looks only at the bytes before the place that it leads to. Assumes nothing.
 use mathlib.Core.Path.{◌≡◌, refl, sym, ◌∙◌, ap, subst}
-use mathlib.Core.Bool.{Bool, true, false, not, ◌&&◌}
-use mathlib.Core.List.{List, ◌++◌}
-use Prim.Native.Nat.{ℕ, ◌+◌, ◌-◌, ◌≤◌, ◌<◌}
+use mathlib.Core.Bool.{Bool}
+use mathlib.Core.List.{List}
+use Prim.Native.Nat.{ℕ, ◌+◌, ◌≤◌}
 use native.Mathlib.Omega.{arith}
 use borrow.Author.Tests.{le-leb, le-ltb, eq-eqb}
-use lib.Dec.{T, ltb, eqb}
-use lib.ListN.{length, take, drop, get_or, length-drop, take-append-drop}
+use lib.Dec.{T, eqb}
+use lib.ListN.{length, take, drop, length-drop, take-append-drop}
 use lib.Seq.{length-take-le, take-append-le, drop-append-le, get_or-take}
 use Rattle.whole.proofs.Tests.{by_equal}
+use Rattle.lent.specs.Refusals.{code_of}
 use Rattle.lent_little.specs.Ordered.{number_of, field, word_at, double_at}
 use Rattle.sheet_coordinate.specs.Coordinate.{coordinate_of}
-use Rattle.sheet_coordinate.specs.declared.Coordinate.{Coordinate}
-use Rattle.sheet_coordinate.specs.declared.Coordinate.TheVariants.{Whole, Not}
+use Rattle.std.specs.Prelude.{Option, Some, None}
 use Rattle.wkb.specs.declared.Cursor.{Cursor}
 use Rattle.wkb.specs.declared.Step.{Step}
 use Rattle.wkb.specs.declared.Step.TheVariants.{Geometry, Ring, Point, End, Refused}
-use Rattle.wkb.specs.Steps.{complete, after_point, geometry_at, ring_at, point_at, end_at, step_at}
-use Rattle.wkb.specs.Faults.{PointDue, RingDue, EndDue, HeaderDue, order_at, Fault, point_cut, ring_cut, ring_count, past, surplus, order_cut, order, type_cut, type, count_cut, count}
+use Rattle.wkb.specs.Steps.{geometry_at, ring_at, point_at, end_at, step_at}
+use Rattle.wkb.specs.Faults.{PointDue, RingDue, EndDue, HeaderDue, order_at}
 use Rattle.wkb.proofs.Cases.{named, by_case}
 use Rattle.wkb.proofs.Due.{at_point, at_ring, at_end, at_header}
-use Rattle.sheet.specs.Reading.{Taken, Reading, Turn, on, over, ended, differs, judged, taken, turn, reading_of}
-use Rattle.sheet.specs.Going.{reading}
+use Rattle.sheet.specs.Reading.{Taken, Turn, on, ended, differs, judged, taken, turn, reading_of}
 use Rattle.sheet.proofs.Run.{Goes, turn_moved, step_moved, Moved, reading_turns}
 use Rattle.sheet_positions.specs.Places.{Comes, begins, goes}
 use Rattle.sheet_positions.specs.Faults.{Wrong, field as fault, x, y, unclosed, FaultIn}
@@ -97,11 +96,11 @@ module _ (s : List ℕ) (p : ℕ) (inside : p ≤ length s) where
     Next (Ring n d) = d.at ≤ p
     Next (Point u v d) = d.at ≤ p
     Next (End d) = ⊥
-    Next (Refused code item at d) = ⊥
+    Next (Refused reason item at d) = ⊥
 
     same_step : Next (step_at s c) → step_at front c ≡ step_at s c
     same_step = by_case (λ a. Moved s c a → Next a → step_at front c ≡ step_at s c) s c (record {
-      refused = λ code at t f m n. absurd n;
+      refused = λ reason at t f m n. absurd n;
       point = λ due l m n. same_point due (omega arith);
       ring = λ q r l n f m k. same_ring (q, r) (omega arith);
       end = λ due. (λ e m n. absurd n, λ l m n. absurd n);
@@ -110,11 +109,11 @@ module _ (s : List ℕ) (p : ℕ) (inside : p ≤ length s) where
 
     -- So does a turn.
     module _ (b : Taken) (d : Cursor) (e : Taken) (l : d.at ≤ p) where
-      next_judged : (c' : Cursor) (u v : Coordinate) → judged c c' b u v ≡ on d e → c'.at ≤ p
+      next_judged : (c' : Cursor) (u v : Option ℕ) → judged c c' b u v ≡ on d e → c'.at ≤ p
       unfolding judged
-      next_judged c' Not v q = absurd (let z : ◌≡◌ {A = ℕ} 0 1 = cc q in omega arith)
-      next_judged c' (Whole m) Not q = absurd (let z : ◌≡◌ {A = ℕ} 0 1 = cc q in omega arith)
-      next_judged c' (Whole m) (Whole n) r =
+      next_judged c' None v q = absurd (let z : ◌≡◌ {A = ℕ} 0 1 = cc q in omega arith)
+      next_judged c' (Some m) None q = absurd (let z : ◌≡◌ {A = ℕ} 0 1 = cc q in omega arith)
+      next_judged c' (Some m) (Some n) r =
           by_equal (λ (t : Turn). t ≡ on d e → c'.at ≤ p) (differs c m n b) _ _ (λ f q. absurd (let z : ◌≡◌ {A = ℕ} 0 1 = cc q in omega arith))
           (λ f q. let w : c' ≡ d = cc q in subst (λ (k : Cursor). k.at ≤ p) (sym w) l)
           r
@@ -125,7 +124,7 @@ module _ (s : List ℕ) (p : ℕ) (inside : p ≤ length s) where
       next (Ring n c') q = let w : c' ≡ d = cc q in subst (λ (k : Cursor). k.at ≤ p) (sym w) l
       next (Point u v c') q = next_judged c' (coordinate_of u) (coordinate_of v) q
       next (End c') q = let z : ◌≡◌ {A = ℕ} 0 1 = cc q in omega arith
-      next (Refused code item at c') q = let z : ◌≡◌ {A = ℕ} 0 1 = cc q in omega arith
+      next (Refused reason item at c') q = let z : ◌≡◌ {A = ℕ} 0 1 = cc q in omega arith
 
       same_turn : turn s c b ≡ on d e → turn front c b ≡ on d e
       unfolding turn
@@ -145,11 +144,11 @@ module _ (s : List ℕ) (c : Cursor) where
   Seven (Ring n d) = Unit {0}
   Seven (Point u v d) = Unit {0}
   Seven (End d) = Unit {0}
-  Seven (Refused code item at d) = code ≡ 7 → EndDue c × (at ≡ c.at)
+  Seven (Refused reason item at d) = code_of reason ≡ 7 → EndDue c × (at ≡ c.at)
 
   step_seven : Seven (step_at s c)
   step_seven = by_case Seven s c (record {
-    refused = λ code at t f e. absurd (subst (λ k. T (named k)) e t);
+    refused = λ reason at t f e. absurd (subst (λ k. T (named k)) e t);
     point = λ p l. tt;
     ring = λ p r l n f. tt;
     end = λ due. (λ e. tt, λ l e. (due, refl));
@@ -157,7 +156,7 @@ module _ (s : List ℕ) (c : Cursor) where
   })
 
   wrong_seven : {b : Taken} {code at : ℕ} → Wrong s c b code at → code ≡ 7 → EndDue c × (at ≡ c.at)
-  wrong_seven {b} {code} {at} (fault f) e = subst Seven ((refused_exactly s c code _ at c).1 (f, refl, refl)) step_seven e
+  wrong_seven {b} {code} {at} (fault f) e = let (reason, w, q) = (refused_exactly s c code _ at c).1 (f, refl, refl) in subst Seven q step_seven (w ∙ e)
   wrong_seven (x due l n) e = absurd (omega arith)
   wrong_seven (y due l u w n) e = absurd (omega arith)
   wrong_seven (unclosed due l u v p q d) e = absurd (omega arith)

@@ -1,9 +1,11 @@
 -- The closed lines as the code comes to them: by the numbers of the sides, off the held numbers.
-use Rattle.std.specs.Prelude.{◌≡◌, ℕ, ◌-◌, ◌≤◌, ◌<◌, length, take, drop}
+use Rattle.std.specs.Prelude.{Result, Ok, Err, ◌≡◌, ℕ, ◌-◌, ◌≤◌, ◌<◌, length, take, drop}
 use mathlib.Core.List.{List, [], ◌∷◌, map, flat_map}
 use Rattle.whole.specs.Sums.{All}
 use Rattle.plane.specs.Members.{Ring}
-use Rattle.lent.specs.Stages.{Answer, value, refused, and_then}
+use Rattle.lent.specs.declared.Refusal.{Refusal}
+use Rattle.lent.specs.Refusals.{refused_as}
+use Rattle.lent.specs.Stages.{Answer, value, and_then}
 use Rattle.lent.specs.Answered.{Outcome}
 use Rattle.lent_little.specs.Held.{end_of}
 use Rattle.repair_longest.specs.Held.{point_held}
@@ -13,7 +15,6 @@ use Rattle.repair_follower.specs.Follower.{follower}
 use Rattle.repair_ring_walk.specs.Walk.{ring_numbers, ends_from}
 use Rattle.sheet_ring_bytes.specs.Lines.{lines_outcome, room_outcome}
 use Rattle.sheet_ring_bytes.specs.declared.Joined.{Joined}
-use Rattle.sheet_ring_bytes.specs.declared.Joined.TheVariants.{Rings, Refused}
 
 -- The points of a ring of sides by number: where the first begins, and where each ends.
 abbrev pub line_held : List ℕ → List ℕ → Ring
@@ -52,9 +53,9 @@ pub record Standing (rings : List (List ℕ)) (k r : ℕ) (order ends : List ℕ
   pub ended : take r ends ≡ ends_from 0 rings
 
 -- What repair and joining left: the rings of the owner numbers that repair comes to, or a refusal of repair.
-abbrev pub JoinedBy : Answer (List ℕ) → (List ℕ → List (List ℕ)) → Joined → (order ends : List ℕ) → Type 0
-JoinedBy repaired rings (Rings k r) order ends = (l : List ℕ) × (repaired ≡ value l) × Standing (rings l) k r order ends
-JoinedBy repaired rings (Refused code item) order ends = repaired ≡ refused code item
+abbrev pub JoinedBy : Answer (List ℕ) → (List ℕ → List (List ℕ)) → Result Joined Refusal → (order ends : List ℕ) → Type 0
+JoinedBy repaired rings (Ok j) order ends = (l : List ℕ) × (repaired ≡ value l) × Standing (rings l) j.sides j.rings order ends
+JoinedBy repaired rings (Err r) order ends = repaired ≡ refused_as r
 
 -- Whatever owner numbers repair comes to, no ring is empty.
 abbrev pub Begun : Answer (List ℕ) → (List ℕ → List (List ℕ)) → Type 0

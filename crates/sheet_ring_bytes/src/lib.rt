@@ -6,6 +6,7 @@ ghost use Rattle.std.proofs.lemmas.List.Edits.{sets};
 ghost use Rattle.whole.specs.Sums.{All};
 ghost use Rattle.plane.specs.Corners.{millimetres};
 ghost use Rattle.lent.specs.Answered.{Answered, answer_of};
+ghost use Rattle.lent.specs.Told.{number_of};
 ghost use Rattle.lent_little.specs.Held.{SideIn};
 ghost use Rattle.owners_marks.specs.Sets.{owners_of};
 ghost use Rattle.repair_regions.specs.Spreading.{Paired};
@@ -18,6 +19,7 @@ ghost use Rattle.sheet_written.specs.Normal.{pattern_of, pair_of};
 ghost use Rattle.sheet_ring_bytes.specs.Lines.{line_bytes};
 ghost use Rattle.sheet_ring_bytes.specs.Held.{line_held, polygon_rings, rings_outcome, ring_room_outcome, rings_in, Rising, JoinedBy, Begun};
 
+use lent::{Reason, Refusal};
 use plane::OFFSET;
 use wkb_kinds::Kind;
 
@@ -52,11 +54,8 @@ fn put_line(numbers: &[u32], ring: &[usize], out: &mut [u8], to: usize)
 {
     wkb_header::put(out, to, Kind::LINE_STRING, ring.len() as u32 + 1);
     put_point(numbers, ring[0], out, to + 9);
-    let mut i: usize = 0;
-    while i < ring.len() {
-        let k = ring[i];
+    for (i, &k) in ring.iter().enumerate() {
         put_point(numbers, k - k % 3 + (k + 1) % 3, out, to + 25 + 16 * i);
-        i += 1;
     }
 }
 
@@ -67,20 +66,17 @@ fn put_lines(numbers: &[u32], order: &[usize], ends: &[usize], out: &mut [u8])
 {
     wkb_header::put(out, 0, Kind::MULTI_LINE_STRING, ends.len() as u32);
     let mut begin: usize = 0;
-    let mut r: usize = 0;
-    while r < ends.len() {
-        let end = ends[r];
+    for (r, &end) in ends.iter().enumerate() {
         put_line(numbers, &order[begin..end], out, room(begin, r));
         begin = end;
-        r += 1;
     }
 }
 
-// What repair comes to: so many sides in so many rings, or a refusal, which is passed on.
+// What was joined: so many sides in so many rings.
 #[derive(Clone, Copy)]
-pub enum Joined {
-    Rings(usize, usize),
-    Refused(u32, u32),
+pub struct Joined {
+    pub sides: usize,
+    pub rings: usize,
 }
 
 // The rings of the polygon after repair in a way, by the numbers of their sides, one behind the other, and where each ends.
@@ -92,7 +88,7 @@ fn found(
     polygon: u8,
     order: &mut [usize],
     ends: &mut [usize],
-) -> Joined
+) -> Result<Joined, Refusal>
     requires { Paired opposite.now (length sets.now) × (length sets.now ≤ 1024) × TableIn numbers.now (length sets.now) × (length order.old ≡ 3072) × (length ends.old ≡ 3072) }
     ensures { JoinedBy (repaired_by way (lengths_held numbers.now (length opposite.now)) opposite.now (map owners_of sets.now))
         (λ l. polygon_rings opposite.now l polygon) result order.new ends.new }
@@ -101,10 +97,7 @@ fn found(
     let m = opposite.len();
     let mut owners = [0u8; 1024];
     let mut sides = [0usize; 3072];
-    let repaired = repair::repair(way, numbers, opposite, sets, &mut owners[..n]);
-    if let repair::Repaired::Refused(code, item) = repaired {
-        return Joined::Refused(code, item);
-    }
+    repair::repair(way, numbers, opposite, sets, &mut owners[..n])?;
     let k = repair_sides::boundary(opposite, &owners[..n], polygon, &mut sides[..m]);
     let r = repair_ring_walk::rings(
         opposite,
@@ -115,9 +108,12 @@ fn found(
         &mut ends[..k],
     );
     if r == 0 {
-        return Joined::Rings(0, 0);
+        return Ok(Joined { sides: 0, rings: 0 });
     }
-    Joined::Rings(ends[r - 1], r)
+    Ok(Joined {
+        sides: ends[r - 1],
+        rings: r,
+    })
 }
 
 // The boundary sides of the polygon after repair in a way, joined into closed rings, as a MultiLineString; the item is the number of bytes. A refusal of repair is
@@ -129,36 +125,39 @@ pub fn rings(
     sets: &[u64],
     polygon: u8,
     out: &mut [u8],
-) -> u64
+) -> Result<u32, Refusal>
     requires { Paired opposite.now (length sets.now) × (length sets.now ≤ 1024) × TableIn numbers.now (length sets.now)
         × Begun (repaired_by way (lengths_held numbers.now (length opposite.now)) opposite.now (map owners_of sets.now)) (λ l. polygon_rings opposite.now l polygon) }
-    ensures { Answered (rings_outcome numbers.now way (lengths_held numbers.now (length opposite.now)) opposite.now (map owners_of sets.now) polygon) out.old result out.new }
+    ensures { Answered (rings_outcome numbers.now way (lengths_held numbers.now (length opposite.now)) opposite.now (map owners_of sets.now) polygon) out.old (number_of result) out.new }
 {
     let mut order = [0usize; 3072];
     let mut ends = [0usize; 3072];
-    match found(way, numbers, opposite, sets, polygon, &mut order, &mut ends) {
-        Joined::Refused(code, item) => item as u64 * 256 + code as u64,
-        Joined::Rings(k, r) => {
-            let size = room(k, r);
-            if out.len() < size {
-                return 40;
-            }
-            put_lines(numbers, &order[..k], &ends[..r], out);
-            size as u64 * 256
-        }
+    let joined = found(way, numbers, opposite, sets, polygon, &mut order, &mut ends)?;
+    let size = room(joined.sides, joined.rings);
+    if out.len() < size {
+        return Err(Refusal {
+            reason: Reason::Room,
+            item: 0,
+        });
     }
+    put_lines(numbers, &order[..joined.sides], &ends[..joined.rings], out);
+    Ok(size as u32)
 }
 
 // How many bytes the same MultiLineString has, as the item; a refusal of repair is passed on.
-pub fn ring_room(way: u32, numbers: &[u32], opposite: &[usize], sets: &[u64], polygon: u8) -> u64
+pub fn ring_room(
+    way: u32,
+    numbers: &[u32],
+    opposite: &[usize],
+    sets: &[u64],
+    polygon: u8,
+) -> Result<u32, Refusal>
     requires { Paired opposite.now (length sets.now) × (length sets.now ≤ 1024) × TableIn numbers.now (length sets.now)
         × Begun (repaired_by way (lengths_held numbers.now (length opposite.now)) opposite.now (map owners_of sets.now)) (λ l. polygon_rings opposite.now l polygon) }
-    ensures { result ≡ answer_of (ring_room_outcome numbers.now way (lengths_held numbers.now (length opposite.now)) opposite.now (map owners_of sets.now) polygon) [] }
+    ensures { number_of result ≡ answer_of (ring_room_outcome numbers.now way (lengths_held numbers.now (length opposite.now)) opposite.now (map owners_of sets.now) polygon) [] }
 {
     let mut order = [0usize; 3072];
     let mut ends = [0usize; 3072];
-    match found(way, numbers, opposite, sets, polygon, &mut order, &mut ends) {
-        Joined::Refused(code, item) => item as u64 * 256 + code as u64,
-        Joined::Rings(k, r) => room(k, r) as u64 * 256,
-    }
+    let joined = found(way, numbers, opposite, sets, polygon, &mut order, &mut ends)?;
+    Ok(room(joined.sides, joined.rings) as u32)
 }

@@ -30,6 +30,7 @@ use native.Mathlib.Omega.{arith}
 use borrow.Author.Tests.{eqb-true}
 use lib.Dec.{eqb}
 use lib.ListN.{length, drop}
+use Rattle.std.specs.Prelude.{Option}
 use Rattle.whole.specs.Sums.{All}
 use Rattle.whole.proofs.Tests.{by_equal}
 use Rattle.plane.specs.Corners.{millimetres}
@@ -38,6 +39,8 @@ use Rattle.wkb_kinds.specs.declared.Slot.TheVariants.{Sheet as TheSheet, Table a
 use Rattle.wkb_kinds.specs.declared.Kind.{Kind}
 use Rattle.wkb_kinds.specs.declared.Kind.TheVariants.{Collection, Tin}
 use Rattle.wkb.specs.Standard.{Geometry, ringed, holding, Geometries, none, ◌then◌, count, encode, encode_all}
+use Rattle.lent.specs.declared.Reason.{Reason}
+use Rattle.wkb_kinds.specs.Types.{code_told}
 use Rattle.wkb.specs.Steps.{start, slot_of, complete, kind_fault, count_fits, popped, with_parts, with_sheet, opened}
 use Rattle.sheet_form.specs.Numbers.{Sheet, numbers_of}
 use Rattle.sheet.specs.Reading.{Taken, nothing, held, opening, reading_of}
@@ -139,11 +142,11 @@ table_kind c = refl
 
 kind_sheet : (c : Cursor) (k : ℕ) → kind_fault TheSheet c k ≡ 0 → k ≡ 7
 unfolding kind_fault
-kind_sheet c k = by_equal (λ (m : ℕ). m ≡ 0 → k ≡ 7) (eqb k 7) _ _ (λ e h. eqb-true k 7 e) (λ e h. absurd (omega arith))
+kind_sheet c k = by_equal (λ (o : Option Reason). code_told o ≡ 0 → k ≡ 7) (eqb k 7) _ _ (λ e h. eqb-true k 7 e) (λ e h. absurd (omega arith))
 
 kind_table : (c : Cursor) (k : ℕ) → kind_fault TheTable c k ≡ 0 → k ≡ 16
 unfolding kind_fault
-kind_table c k = by_equal (λ (m : ℕ). m ≡ 0 → k ≡ 16) (eqb k 16) _ _ (λ e h. eqb-true k 16 e) (λ e h. absurd (omega arith))
+kind_table c k = by_equal (λ (o : Option Reason). code_told o ≡ 0 → k ≡ 16) (eqb k 16) _ _ (λ e h. eqb-true k 16 e) (λ e h. absurd (omega arith))
 
 table_place_lem : (limit : ℕ) (s : List ℕ) (n m : ℕ) → FromTo 1 limit n → 18 ≤ length s → InTable s (pieces_place limit n m)
 table_place_lem limit s n m f h = record { within = h; member = refl; no_header = refl; no_second = refl; no_third = refl; no_fourth = refl; total = omega arith; members = omega (arith, f.0, f.1) }

@@ -1,5 +1,5 @@
 -- Which of the standard's trees are sheets within document 01's limits, and the sheet in numbers that such a tree unfolds to.
-use Rattle.std.specs.Prelude.{◌≡◌, ◌⊎◌, List, [], ◌∷◌, ◌++◌, map, ℕ, zero, suc, ◌+◌, ◌-◌, ◌^◌, ◌≤◌, ◌<◌, ℤ, pos, length, get_or}
+use Rattle.std.specs.Prelude.{◌≡◌, Option, Some, None, ◌⊎◌, List, [], ◌∷◌, ◌++◌, map, ℕ, zero, suc, ◌+◌, ◌-◌, ◌^◌, ◌≤◌, ◌<◌, ℤ, pos, length, get_or}
 use Rattle.std.specs.Float.{binary64}
 use Rattle.std.specs.Float.Ieee.{of_bits}
 use Rattle.whole.specs.Sums.{All}
@@ -7,17 +7,15 @@ use Rattle.plane.specs.Points.{Point, Triangle}
 use Rattle.plane.specs.Members.{Ring, Member}
 use Rattle.plane.specs.Corners.{millimetres}
 use Rattle.sheet_coordinate.specs.Coordinate.{coordinate_of}
-use Rattle.sheet_coordinate.specs.declared.Coordinate.{Coordinate}
-use Rattle.sheet_coordinate.specs.declared.Coordinate.TheVariants.{Whole, Not}
 use Rattle.wkb_kinds.specs.declared.Kind.TheVariants.{Polygon, MultiPolygon, Collection, Tin, Triangle as Three}
 use Rattle.wkb.specs.Standard.{Pair, Geometry, ringed, holding, Geometries, none, ◌then◌, count}
 use Rattle.sheet_form.specs.Numbers.{Sheet}
 
 -- ---- what a tree unfolds to
 -- The whole number that the double of a pattern equals (0 where it is not a coordinate).
-abbrev pub whole_of : Coordinate → ℤ
-whole_of (Whole h) = millimetres h
-whole_of Not = pos 0
+abbrev pub whole_of : Option ℕ → ℤ
+whole_of (Some h) = millimetres h
+whole_of None = pos 0
 
 unfoldable pub number_of : ℕ → ℤ
 number_of pattern = whole_of (coordinate_of (of_bits binary64 pattern))
@@ -67,7 +65,7 @@ FromTo low high n = (low ≤ n) × (n ≤ high)
 pub record IsCoordinate (pattern : ℕ) : Type 0 where
   pub eight : pattern < 2 ^ 64
   pub h : ℕ
-  pub is : coordinate_of (of_bits binary64 pattern) ≡ Whole h
+  pub is : coordinate_of (of_bits binary64 pattern) ≡ Some h
 
 -- A ring has so many points, each of two coordinates, and its last point is its first, as whole numbers.
 pub record RingFits (low high : ℕ) (r : List Pair) : Type 0 where

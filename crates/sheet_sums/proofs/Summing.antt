@@ -3,17 +3,19 @@
 -- ring's sum does not show. Assumes nothing.
 use mathlib.Core.Path.{◌≡◌, refl, sym, ◌∙◌, ap, ap₂, subst}
 use mathlib.Core.List.{List, [], ◌∷◌, ◌++◌, map, flat_map}
-use Prim.Native.Nat.{ℕ, zero, suc, ◌+◌, ◌-◌, ◌*◌, ◌≤◌, ◌<◌}
+use Prim.Native.Nat.{ℕ, zero, suc, ◌+◌, ◌-◌, ◌*◌, ◌^◌, ◌≤◌, ◌<◌}
 use native.Mathlib.Omega.{arith}
 use lib.IntN.{ℤ, pos, ◌+ℤ◌, ◌-ℤ◌, ◌*ℤ◌}
 use lib.ListN.{length, get_or, take, drop, length-take}
 use lib.Seq.{get_or-take}
 use mir.Syntax.{w64}
-use mir.Val.{SFits}
+use lib.Signed.{mag}
+use mir.Val.{SFits, to_z, of_z}
+use mir.Facts.{to_z-of_z}
 use Rattle.whole.specs.Numbers.{Within}
 use Rattle.whole.specs.Polynomials.{con, ◌:+◌, ◌:-◌, ◌:*◌, ◌:=◌}
 use Rattle.whole.proofs.Ring.{solve}
-use Rattle.whole.proofs.Bound.{within_add, within_fits}
+use Rattle.whole.proofs.Bound.{within_add, within_fits, returned}
 use Rattle.whole.proofs.Sums.{all_at}
 use Rattle.plane.specs.Points.{Point}
 use Rattle.plane.specs.Members.{Ring, edges}
@@ -81,20 +83,20 @@ module _ {numbers : List ℕ} {at : ℕ} {r : Ring} {rest : List ℤ} (w : RingA
       (c.0, c.1, omega (arith, p.0))
 
   -- Nothing is summed up.
-  pub summing_begin : (closing : ℕ) → closing ≡ at + 2 * (get_or numbers at 0 - 10_000_000) - 1
-      → Summing numbers r rest closing (get_or numbers (closing - 1) 0) (at + 1) (pos 0)
-  summing_begin closing e =
+  pub summing_begin : (corners here : ℕ) → corners ≡ get_or numbers at 0 - 10_000_000 - 1 → here ≡ at + 1
+      → Summing numbers r rest (at + 2 * corners + 1) (get_or numbers (at + 2 * corners) 0) here (pos 0)
+  summing_begin corners here e f =
       let c = count_first point_numbers numbers at r rest w.numbers_at in
       let l = w.limits.low in
       let h = w.limits.high in
       let p = point_stands numbers (at + 1) r rest (length r - 2) c.2 (omega arith) in
-      let k : closing - 1 ≡ at + 1 + 2 * (length r - 2) + 1 = omega arith in
+      let k : at + 2 * corners ≡ at + 1 + 2 * (length r - 2) + 1 = omega arith in
       record {
         from = get_or r (length r - 2) origin;
         todo = r;
         corners = 0;
         from_is = ap (λ i. millimetres (get_or numbers i 0)) k ∙ p.1;
-        numbers_at = c.2;
+        numbers_at = rw f c.2;
         ends = omega arith;
         some = omega arith;
         many = omega arith;
@@ -102,6 +104,11 @@ module _ {numbers : List ℕ} {at : ℕ} {r : Ring} {rest : List ℤ} (w : RingA
         small = record { size = omega arith };
         sum_is = solve 1 (λ z. con (pos 0) :+ z := z) tt (along_by shift (get_or r (length r - 2) origin ∷ r)) ∙ moved_sum shift r w.limits.closed;
       }
+
+-- The same place, counted otherwise.
+pub summing_as : {numbers : List ℕ} {r : Ring} {rest : List ℤ} {closing before here here' : ℕ} {total : ℤ} → Summing numbers r rest closing before here total → here ≡ here'
+    → Summing numbers r rest closing before here' total
+summing_as w e = rw e at w
 
 -- A product of held numbers is that of the coordinates, x moved.
 product_is : (x before after : ℕ) → pos x *ℤ (pos after -ℤ pos before) ≡ (millimetres x +ℤ shift) *ℤ (millimetres after -ℤ millimetres before)
@@ -172,3 +179,12 @@ module _ {numbers : List ℕ} {r : Ring} {rest : List ℤ} {closing before here 
       go [] d g = none g
       go (q ∷ []) d g = none g
       go (q ∷ t ∷ l) d g = absurd (omega arith)
+
+-- One corner more, as the code adds it.
+pub summing_added : {numbers : List ℕ} {r : Ring} {rest : List ℤ} {closing before here : ℕ} {total : ℤ} → Summing numbers r rest closing before here total → here < closing
+    → (z : ℤ) → mag z < 2 ^ 63 → z ≡ pos (get_or numbers here 0) *ℤ (pos (get_or numbers (here + 3) 0) -ℤ pos before) → Within 400_000_000_000_000 z
+    → SFits w64 (total +ℤ to_z w64 (of_z w64 z))
+    × Summing numbers r rest closing (get_or numbers (here + 1) 0) (here + 2) (to_z w64 (of_z w64 (total +ℤ to_z w64 (of_z w64 z))))
+summing_added w h z f e k =
+    let s = summing_more w h z e k in
+    rw (returned z f) (summing_fits s, rw (to_z-of_z {w = w64} (summing_fits s)) s)

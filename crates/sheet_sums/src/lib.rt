@@ -23,14 +23,13 @@ pub fn sum(numbers: &[u32], at: usize) -> i64
     requires { (r : Ring) × (rest : List ℤ) × RingAt numbers.now at r rest }
     ensures { (r : Ring) (rest : List ℤ) → RingAt numbers.now at r rest → (result ≡ ring_area r) × Within (400_000_000_000_000 * length (edges r)) result }
 {
-    let closing = at + 2 * (numbers[at] - OFFSET) as usize - 1;
-    let mut before = numbers[closing - 1];
-    let mut here = at + 1;
+    let corners = (numbers[at] - OFFSET) as usize - 1;
+    let mut before = numbers[at + 2 * corners];
     let mut total: i64 = 0;
-    while here < closing {
+    for k in 0..corners {
+        let here = at + 1 + 2 * k;
         total += product(numbers[here], before, numbers[here + 3]);
         before = numbers[here + 1];
-        here += 2;
     }
     total
 }

@@ -17,6 +17,7 @@ use Rattle.lent_little.specs.Ordered.{word_at}
 use Rattle.sheet_written.specs.Fits.{from_to}
 use Rattle.sheet_form.specs.Form.{numbers_in}
 use Rattle.sheet_form.specs.Numbers.{members}
+use Rattle.std.specs.Prelude.{Option as Maybe}
 use Rattle.sheet_writer.specs.declared.Walk.{Walk}
 use Rattle.sheet_writer.specs.Emit.{followed, emit, polygon_count, emit_table, emit_sheet}
 use Rattle.sheet_writer.specs.Walks.{beginning, Went}
@@ -67,7 +68,7 @@ module _ {s : List ℕ} {t : ℕ} (b : Begun s t) where
         stands ∙ ap (λ z. z ∷ drop 1 (numbers_in s)) (signed_low t (omega arith))
 
     -- What is emitted for the table and the polygons is the sheet, if it ends so.
-    pub walks : {o : List ℕ} {u : Walk} {b : List ℕ} → Went (followed (emit_table t (drop 1 (numbers_in s))) (emit 4)) (numbers_in s) beginning o u b → Walked (numbers_in s) o u b
+    pub walks : {o : List ℕ} {u : Maybe Walk} {b : List ℕ} → Went (followed (emit_table t (drop 1 (numbers_in s))) (emit 4)) (numbers_in s) beginning o u b → Walked (numbers_in s) o u b
     unfolding emit_sheet
     walks h = record { what = followed (emit_table t (drop 1 (numbers_in s))) (emit 4); is = ap emit_sheet first ∙ (rw range refl); went = h }
 

@@ -1,7 +1,7 @@
--- The sheet that the bytes give, against what the walk over it came to: what is emitted is the bytes of a sheet within the limits, so that a good walk
--- wrote the sheet that is given and a walk that isn't good says that none is. Assumes nothing.
+-- The sheet that the bytes give, against what the walk over it came to: what is emitted is the bytes of a sheet within the limits, so that a walk that comes
+-- to its end wrote the sheet that is given and one that doesn't says that none is. Assumes nothing.
 use mathlib.Core.Path.{◌≡◌, refl, sym, ◌∙◌, ap, subst}
-use mathlib.Core.Bool.{Bool, true, false, cond, true≢false}
+use mathlib.Core.Bool.{Bool, true, false, cond}
 use mathlib.Core.List.{List, ◌++◌}
 use mathlib.Core.Option.{Option, none, some, none-ne-some, some-injective}
 use Prim.Native.Nat.{ℕ, ◌%◌, ◌≤◌, ◌<◌}
@@ -10,7 +10,7 @@ use native.Mathlib.Omega.{arith}
 use borrow.Author.Tests.{eq-eqb, ne_eqb}
 use lib.Dec.{T}
 use lib.ListN.{length, drop}
-use lib.Seq.{sets-eq}
+use lib.Seq.{sets, sets-eq}
 use Rattle.sheet_form.specs.Numbers.{Sheet, members, numbers_of}
 use Rattle.sheet_written.specs.Fits.{sheet_fits}
 use Rattle.sheet_form.specs.Form.{sheet_in, numbers_in}
@@ -18,7 +18,7 @@ use Rattle.sheet_written.specs.Given.{limited, sheet_given}
 use Rattle.sheet_written.specs.Normal.{written}
 use Rattle.sheet_form.proofs.Form.{form_is}
 use Rattle.sheet_written.proofs.Trip.{form_small}
-use Rattle.sheet_writer.specs.declared.Walk.{Walk}
+use Rattle.std.specs.Prelude.{Option as Maybe, None, Some}
 use Rattle.sheet_writer.specs.Emit.{emit_sheet}
 use Rattle.sheet_writer.specs.Walks.{Ended}
 use Rattle.sheet_writer.proofs.Emits.{written_for, emit_sheet_lem}
@@ -37,10 +37,10 @@ given (some m) n e = go (sheet_fits members m) refl e
     go true f e = let q = some-injective m n e in record { is = ap some q; fits = subst (λ k. T (sheet_fits members k)) q (subst T (sym f) tt) }
     go false f e = absurd (none-ne-some _ e)
 
-pub record Seen (s : List ℕ) (r : Walk) : Type 0 where
+pub record Seen (s : List ℕ) (k : ℕ) : Type 0 where
   pub sheet : Sheet
   pub is : sheet_given members s ≡ some sheet
-  pub to_is : r.to ≡ length (written sheet)
+  pub size : k ≡ length (written sheet)
 
 module _ (s : List ℕ) where
   -- A length that is no multiple of 4.
@@ -69,24 +69,25 @@ module _ (s : List ℕ) where
     for : emit_sheet (numbers_in s) ≡ written_for (sheet_given members s)
     for = emit_sheet_lem (numbers_in s) ∙ ap written_for (sym is_limited)
 
-    pub ended_ill : (before after : List ℕ) (r : Walk) → Ended (emit_sheet (numbers_in s)) before r after → r.good ≡ false → sheet_given members s ≡ none
-    ended_ill before after r h g = go (sheet_given members s) (subst (λ x. Ended x before r after) for h)
+    pub ended_ill : (before after : List ℕ) → Ended (emit_sheet (numbers_in s)) before None after → sheet_given members s ≡ none
+    ended_ill before after h = go (sheet_given members s) (sym for ∙ h.0)
       where
-        go : (x : Option Sheet) → Ended (written_for x) before r after → x ≡ none
+        go : (x : Option Sheet) → written_for x ≡ none → x ≡ none
         go none k = refl
-        go (some n) k = absurd (true≢false (sym k.0 ∙ g))
+        go (some n) k = absurd (none-ne-some _ (sym k))
 
     -- A sheet is given, and the walk tells how long it is.
-    pub ended_well : (before after : List ℕ) (r : Walk) → Ended (emit_sheet (numbers_in s)) before r after → r.good ≡ true → Seen s r
-    ended_well before after r h g = go (sheet_given members s) refl (subst (λ x. Ended x before r after) for h)
+    pub ended_well : (before after : List ℕ) (k : ℕ) → Ended (emit_sheet (numbers_in s)) before (Some k) after → Seen s k
+    ended_well before after k (b, is, size, left) = go (sheet_given members s) refl (sym for ∙ is)
       where
-        go : (x : Option Sheet) → sheet_given members s ≡ x → Ended (written_for x) before r after → Seen s r
-        go none e k = absurd (true≢false (sym g ∙ k.0))
-        go (some n) e k = record { sheet = n; is = e; to_is = k.1 }
+        go : (x : Option Sheet) → sheet_given members s ≡ x → written_for x ≡ some b → Seen s k
+        go none e q = absurd (none-ne-some _ q)
+        go (some n) e q = record { sheet = n; is = e; size = size ∙ ap length (sym (some-injective _ _ q)) }
 
     -- The walk over the lent bytes writes the sheet that is given.
-    pub written_again : (before after : List ℕ) (r : Walk) (n : Sheet) → sheet_given members s ≡ some n → Ended (emit_sheet (numbers_in s)) before r after → length (written n) ≤ length before
+    pub written_again : (before after : List ℕ) (r : Maybe ℕ) (n : Sheet) → sheet_given members s ≡ some n → Ended (emit_sheet (numbers_in s)) before r after → length (written n) ≤ length before
         → after ≡ written n ++ drop (length (written n)) before
-    written_again before after r n e h fits =
-        let k = subst (λ x. Ended (written_for x) before r after) e (subst (λ x. Ended x before r after) for h) in
-        k.2 ∙ sets-eq (written n) before 0 (omega arith) ∙ (rw (zero-add (length (written n))) refl)
+    written_again before after None n e h fits = absurd (none-ne-some _ (sym (ended_ill before after h) ∙ e))
+    written_again before after (Some k) n e (b, is, size, left) fits =
+        let q : written n ≡ b = some-injective _ _ (sym (for ∙ ap written_for e) ∙ is) in
+        left ∙ ap (sets before 0) (sym q) ∙ sets-eq (written n) before 0 (omega arith) ∙ (rw (zero-add (length (written n))) refl)

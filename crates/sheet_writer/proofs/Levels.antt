@@ -3,7 +3,7 @@
 use mathlib.Core.Path.{◌≡◌, refl, ◌∙◌, ap, subst}
 use mathlib.Core.Bool.{Bool, true, false, not, ◌&&◌, cond}
 use mathlib.Core.List.{List, [], ◌∷◌}
-use mathlib.Core.Option.{Option, none, some}
+use mathlib.Core.Option.{Option, none}
 use mir.Syntax.{w32}
 use mir.Val.{to_z, sel}
 use Prim.Native.Nat.{ℕ, zero, suc, ◌+◌, ◌-◌, ◌*◌, ◌/◌, ◌^◌, ◌≤◌}
@@ -20,11 +20,12 @@ use Rattle.lent_little.proofs.Ordered.{length_bytes}
 use Rattle.sheet_coordinate.proofs.Doubles.{and_true}
 use Rattle.sheet_written.specs.Fits.{from_to}
 use Rattle.sheet_form.specs.Form.{numbers_in}
+use Rattle.std.specs.Prelude.{Option as Maybe}
 use Rattle.sheet_writer.specs.declared.Walk.{Walk}
 use Rattle.sheet_writer.specs.Emit.{Emitted, joined, low, high, heading, closed, closes, emit_point, emit_many, emit_counted, emit}
 use Rattle.sheet_writer.specs.Walks.{headed, Fair, Gone, Went}
 use Rattle.sheet_writer.proofs.Bytes.{header_long}
-use Rattle.sheet_writer.proofs.Goes.{went_fair, went_joined}
+use Rattle.sheet_writer.proofs.Goes.{gone_fair, went_joined}
 use Rattle.sheet_writer.proofs.Numbers.{numbers_length, number_stands}
 
 -- The most that a level counts.
@@ -113,7 +114,6 @@ module _ {s : List ℕ} {w : Walk} {level n : ℕ} (c : Counted s w level n) whe
   gone_head o p e =
       let l = heading_long level n in
       record {
-        good = refl;
         rest = refl;
         at_most = behind_count;
         to_is = refl;
@@ -124,12 +124,12 @@ module _ {s : List ℕ} {w : Walk} {level n : ℕ} (c : Counted s w level n) whe
       }
 
   pub head_fair : (v : Walk) → v ≡ headed w level n → Fair (numbers_in s) v
-  head_fair v e = rw e (went_fair (numbers_in s) (some _) w (headed w level n) [] _ c.fair (gone_head [] _ refl) refl)
+  head_fair v e = rw e (gone_fair (numbers_in s) _ w (headed w level n) [] _ c.fair (gone_head [] _ refl))
 
   -- A thing is its count and the things that it counts.
   pub thing_goes : from_to (low level) (high level) n ≡ true → closes level n (drop (w.at + 1) (numbers_in s)) ≡ true
       → (v : Walk) (o p : List ℕ) → v ≡ headed w level n → p ≡ sets o w.to (heading level n)
-      → (r : Walk) (a : List ℕ) → Went (emit_many (emit (level - 1)) n (drop v.at (numbers_in s))) (numbers_in s) v p r a
+      → (r : Maybe Walk) (a : List ℕ) → Went (emit_many (emit (level - 1)) n (drop v.at (numbers_in s))) (numbers_in s) v p r a
       → Went (emit level (drop w.at (numbers_in s))) (numbers_in s) w o r a
   thing_goes fits closing v o p e left r a h =
       rw (stands, fits, closing)

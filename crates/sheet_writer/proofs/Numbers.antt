@@ -8,14 +8,13 @@ use mir.Val.{to_z, sel}
 use Prim.Native.Nat.{ℕ, zero, suc, ◌+◌, ◌-◌, ◌*◌, ◌/◌, ◌≤◌, ◌<◌}
 use native.Mathlib.Numerals.{add-one}
 use native.Mathlib.Omega.{arith}
-use borrow.Author.Tests.{ltb-true, ltb-false, eqb-true, eqb-false, lt-ltb, le-ltb, le-leb, lt-leb, eq-eqb, ne_eqb}
-use lib.Dec.{leb, ltb, eqb}
+use borrow.Author.Tests.{ltb-true, ltb-false, eqb-true, eqb-false, lt-ltb, le-ltb, eq-eqb, ne_eqb}
+use lib.Dec.{ltb, eqb}
 use lib.IntN.{ℤ, pos, negsuc}
 use lib.ListN.{length, drop, take, get_or}
 use lib.Seq.{drop-cons, get_or-drop}
 use Rattle.whole.specs.Numbers.{eq_z}
 use Rattle.lent_little.specs.Ordered.{number, word_at, ordered}
-use Rattle.sheet_written.specs.Fits.{in_range}
 use Rattle.sheet_form.specs.Form.{numbers_in}
 
 -- ---- the numbers that bytes are
@@ -89,14 +88,3 @@ signed_same a b f g =
     (λ h. by_order b 2_147_483_648
     (λ k. ap₂ eq_z (signed_high a h) (signed_low b k) ∙ sym (ne_eqb a b (λ e. omega arith)))
     (λ k. ap₂ eq_z (signed_high a h) (signed_high b k) ∙ eqb_same (4_294_967_296 - suc a) (4_294_967_296 - suc b) a b (λ e. omega arith) (λ e. omega arith)))
-
-pub in_range_low : (b : ℕ) → b ≤ 10_000_000 → in_range (to_z w32 b) ≡ leb b 10_000_000
-in_range_low b h = ap in_range (signed_low b (omega arith))
-
-pub in_range_high : (b : ℕ) → 10_000_000 < b → b < 4_294_967_296 → in_range (to_z w32 b) ≡ leb 4_284_967_296 b
-in_range_high b h g =
-    by_order b 2_147_483_648
-    (λ k. ap in_range (signed_low b k) ∙ lt-leb b 10_000_000 h ∙ sym (lt-leb 4_284_967_296 b (omega arith)))
-    (λ k. ap in_range (signed_high b k) ∙ by_order b 4_284_967_296
-    (λ m. lt-leb (suc (4_294_967_296 - suc b)) 10_000_000 (omega arith) ∙ sym (lt-leb 4_284_967_296 b m))
-    (λ m. le-leb (suc (4_294_967_296 - suc b)) 10_000_000 (omega arith) ∙ sym (le-leb 4_284_967_296 b m)))

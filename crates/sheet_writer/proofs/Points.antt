@@ -17,6 +17,7 @@ use Rattle.wkb.specs.Standard.{encode_point}
 use Rattle.sheet_written.specs.Fits.{in_range}
 use Rattle.sheet_form.specs.Form.{numbers_in}
 use Rattle.sheet_written.specs.Normal.{pattern_of}
+use Rattle.std.specs.Prelude.{Some}
 use Rattle.sheet_writer.specs.declared.Walk.{Walk}
 use Rattle.sheet_writer.specs.Emit.{emit_point}
 use Rattle.sheet_writer.specs.Walks.{Went}
@@ -43,6 +44,9 @@ pub record Pair (s : List ℕ) (w : Walk) (x y : ℕ) : Type 0 where
   pub x_is : x ≡ word_at true s (4 * w.at)
   pub y_is : y ≡ word_at true s (4 * (w.at + 1))
 
+pub pair : {s : List ℕ} {w : Walk} {x y : ℕ} → w.at + 2 ≤ length s / 4 → x ≡ word_at true s (4 * w.at) → y ≡ word_at true s (4 * (w.at + 1)) → Pair s w x y
+pair h e f = record { there = h; x_is = e; y_is = f }
+
 pub no_pair : (s : List ℕ) (at : ℕ) → length s / 4 - at < 2 → emit_point (drop at (numbers_in s)) ≡ none
 unfolding emit_point
 no_pair s at h = go (drop at (numbers_in s)) (omega (arith, numbers_length s, length-drop at (numbers_in s)))
@@ -54,7 +58,7 @@ no_pair s at h = go (drop at (numbers_in s)) (omega (arith, numbers_length s, le
 
 -- The place behind a point.
 abbrev behind : Walk → Walk
-behind w = record { at = w.at + 2; to = w.to + 16; points = w.points + 1; good = true }
+behind w = record { at = w.at + 2; to = w.to + 16; points = w.points + 1 }
 
 module _ {s : List ℕ} {w : Walk} {x y : ℕ} (b : Pair s w x y) where
   two_numbers : drop w.at (numbers_in s) ≡ to_z w32 x ∷ to_z w32 y ∷ drop (w.at + 2) (numbers_in s)
@@ -72,14 +76,17 @@ module _ {s : List ℕ} {w : Walk} {x y : ℕ} (b : Pair s w x y) where
   tested = ap emit_point two_numbers
 
   pub point_goes : in_range (to_z w32 x) ≡ true → in_range (to_z w32 y) ≡ true → (o q : List ℕ) → q ≡ sets o w.to (point_of x y)
-      → Went (emit_point (drop w.at (numbers_in s))) (numbers_in s) w o (behind w) q
-  point_goes i j o q e = rw (tested, i, j) (record {
-    good = refl;
-    rest = refl;
-    at_most = omega (arith, numbers_length s, b.there);
-    to_is = omega (arith, sixteen (pattern_of (to_z w32 x)) (pattern_of (to_z w32 y)));
-    points_are = refl;
-    to_pace = omega arith;
-    points_pace = omega arith;
-    left = e;
-  })
+      → Went (emit_point (drop w.at (numbers_in s))) (numbers_in s) w o (Some (behind w)) q
+  point_goes i j o q e = (
+    record { bytes = point_of x y; points = 1; rest = drop (w.at + 2) (numbers_in s) },
+    tested ∙ (rw (i, j) refl),
+    record {
+      rest = refl;
+      at_most = omega (arith, numbers_length s, b.there);
+      to_is = omega (arith, sixteen (pattern_of (to_z w32 x)) (pattern_of (to_z w32 y)));
+      points_are = refl;
+      to_pace = omega arith;
+      points_pace = omega arith;
+      left = e;
+    },
+  )

@@ -17,11 +17,12 @@ use Rattle.wkb.specs.Standard.{header, encode_point}
 use Rattle.sheet_written.specs.Fits.{in_range}
 use Rattle.sheet_form.specs.Form.{numbers_in}
 use Rattle.sheet_written.specs.Normal.{pattern_of}
+use Rattle.std.specs.Prelude.{Option as Maybe, None, Some}
 use Rattle.sheet_writer.specs.declared.Walk.{Walk}
 use Rattle.sheet_writer.specs.Emit.{Emitted, joined, followed, again, emit_point, emit_many, emit, emit_piece}
 use Rattle.sheet_writer.specs.Walks.{Fair, Went}
 use Rattle.sheet_writer.proofs.Bytes.{Wrote, as_long, one_run, wrote_number, wrote_header}
-use Rattle.sheet_writer.proofs.Goes.{well, ill, wrote, went_fair, went_length}
+use Rattle.sheet_writer.proofs.Goes.{wrote, gone_fair}
 use Rattle.sheet_writer.proofs.Numbers.{numbers_length}
 use Rattle.sheet_writer.proofs.Points.{point_of, sixteen, Pair, first_point}
 
@@ -81,47 +82,41 @@ wrote_front o to e f = one_run {o = o} (wrote_header 1 Triangle e refl) (wrote_n
 
 -- The place behind the front, and the one behind the point that is written again.
 abbrev pub ringed : Walk → Walk
-ringed w = record { at = w.at; to = w.to + 13; points = w.points; good = true }
+ringed w = record { at = w.at; to = w.to + 13; points = w.points }
 
 abbrev closing : Walk → Walk
-closing v = record { at = v.at; to = v.to + 16; points = v.points; good = true }
+closing v = record { at = v.at; to = v.to + 16; points = v.points }
 
 pub ringed_fair : {nums : List ℤ} {w : Walk} → Fair nums w → w.to ≤ 20 * w.at → Fair nums (ringed w)
-ringed_fair f h = record { few = f.few; at_most = f.at_most; to_most = omega arith; points_most = f.points_most; well = refl }
+ringed_fair f h = record { few = f.few; at_most = f.at_most; to_most = omega arith; points_most = f.points_most }
 
--- The walk over the three points behind the front came to v.
-pub record Three (s : List ℕ) (w : Walk) (o : List ℕ) (v : Walk) (a : List ℕ) : Type 0 where
+-- The walk over the three points behind the front came to r.
+pub record Three (s : List ℕ) (w : Walk) (o : List ℕ) (r : Maybe Walk) (a : List ℕ) : Type 0 where
   pub fair : Fair (numbers_in s) (ringed w)
   pub behind : List ℕ
   pub fronted : Wrote o w.to front behind (w.to + 13)
-  pub went : Went (emit_many (emit 0) 3 (drop w.at (numbers_in s))) (numbers_in s) (ringed w) behind v a
+  pub went : Went (emit_many (emit 0) 3 (drop w.at (numbers_in s))) (numbers_in s) (ringed w) behind r a
 
-module _ {s : List ℕ} {w : Walk} {o : List ℕ} {v : Walk} {a : List ℕ} (k : Three s w o v a) where
-  abbrev points : Option Emitted
-  points = emit_many (emit 0) 3 (drop w.at (numbers_in s))
+-- A point is wrong.
+pub piece_stops : {s : List ℕ} {w : Walk} {o a : List ℕ} → Three s w o None a → Went (emit_piece (drop w.at (numbers_in s))) (numbers_in s) w o None a
+piece_stops {s} {w} k = (again_is (drop w.at (numbers_in s)) none k.went.0, k.went.1 ∙ as_long k.fronted)
 
-  -- A point is wrong.
-  pub piece_stops : v.good ≡ false → Went (emit_piece (drop w.at (numbers_in s))) (numbers_in s) w o v a
-  piece_stops g =
-      rw (again_is (drop w.at (numbers_in s)) none (ill (numbers_in s) points (ringed w) v k.behind a k.went g))
-      (g, went_length (numbers_in s) points (ringed w) v k.behind a k.went ∙ as_long k.fronted)
+module _ {s : List ℕ} {w : Walk} {o : List ℕ} {v : Walk} {a : List ℕ} (k : Three s w o (Some v) a) where
+  pub near : v.to ≤ 329020
+  near = let (e, is, gone) = k.went in omega (arith, gone_fair (numbers_in s) e (ringed w) v k.behind a k.fair gone)
 
-  module _ (g : v.good ≡ true) where
-    pub near : v.to ≤ 329020
-    near = omega (arith, went_fair (numbers_in s) points (ringed w) v k.behind a k.fair k.went g)
-
-    -- The first point's patterns stand behind the three points.
-    pub piece_goes : {x y : ℕ} → Pair s w x y → (c : List ℕ) → c ≡ sets a v.to (point_of x y) → Went (emit_piece (drop w.at (numbers_in s))) (numbers_in s) w o (closing v) c
-    piece_goes {x} {y} b c e =
-        let nums = numbers_in s in
-        let l = drop w.at nums in
-        let yes = well nums points (ringed w) v k.behind a k.went g in
-        let gone = yes.gone in
-        let took : Took 3 l (some yes.what) = subst (Took 3 l) (sym (level_0 l) ∙ yes.is) (many_took 3 l) in
-        let again : Wrote a v.to (point_of x y) c (v.to + 16) = record { to = omega (arith, sixteen (pattern_of (to_z w32 x)) (pattern_of (to_z w32 y))); left = e } in
-        let all = one_run (one_run k.fronted (wrote nums yes.what (ringed w) v k.behind a gone)) again in
-        rw (again_is l (some yes.what) yes.is) (record {
-          good = refl;
+  -- The first point's patterns stand behind the three points.
+  pub piece_goes : {x y : ℕ} → Pair s w x y → (c : List ℕ) → c ≡ sets a v.to (point_of x y) → Went (emit_piece (drop w.at (numbers_in s))) (numbers_in s) w o (Some (closing v)) c
+  piece_goes {x} {y} b c e =
+      let nums = numbers_in s in
+      let l = drop w.at nums in
+      let (what, is, gone) = k.went in
+      let took : Took 3 l (some what) = subst (Took 3 l) (sym (level_0 l) ∙ is) (many_took 3 l) in
+      let second : Wrote a v.to (point_of x y) c (v.to + 16) = record { to = omega (arith, sixteen (pattern_of (to_z w32 x)) (pattern_of (to_z w32 y))); left = e } in
+      let all = one_run (one_run k.fronted (wrote nums what (ringed w) v k.behind a gone)) second in (
+        _,
+        again_is l (some what) is,
+        record {
           rest = gone.rest;
           at_most = gone.at_most;
           to_is = rw (first_point b) all.to;
@@ -129,4 +124,5 @@ module _ {s : List ℕ} {w : Walk} {o : List ℕ} {v : Walk} {a : List ℕ} (k :
           to_pace = omega (arith, took, gone.to_is, gone.at_most, ap length gone.rest, length-drop w.at nums, length-drop v.at nums);
           points_pace = gone.points_pace;
           left = rw (first_point b) all.left;
-        })
+        },
+      )

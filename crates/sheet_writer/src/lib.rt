@@ -1,11 +1,10 @@
 // The writer: walks over the numbers form twice, first with a byte of its own to see that all of it is right and how long it is, then over the lent bytes.
 #![tactic(auto)]
 
-ghost use Rattle.std.specs.Prelude.{◌≡◌, true, false, ◌+◌, ◌*◌, ◌≤◌, ◌<◌, pos, length, drop};
+ghost use Rattle.std.specs.Prelude.{◌≡◌, true, ◌+◌, ◌*◌, ◌≤◌, ◌<◌, pos, length, drop, IfErr};
 ghost use Rattle.std.proofs.lemmas.List.Edits.{sets};
 ghost use Rattle.std.specs.Int.{w32};
 ghost use Rattle.std.proofs.Common.{to_z};
-ghost use Rattle.whole.specs.Numbers.{Within};
 ghost use Rattle.lent_little.specs.Ordered.{word_at};
 ghost use Rattle.wkb.specs.Standard.{header as header_of};
 ghost use Rattle.sheet_written.specs.Fits.{in_range, from_to};
@@ -16,24 +15,19 @@ ghost use Rattle.sheet_writer.specs.Emit.{low, high, heading, closed, closes as 
 ghost use Rattle.sheet_writer.specs.Walks.{beginning, headed, Fair, Went, Ended};
 ghost use Rattle.sheet_written.specs.Given.{sheet_given, write_outcome};
 ghost use Rattle.lent.specs.Answered.{Answered};
+ghost use Rattle.lent.specs.Refusals.{code_of};
+ghost use Rattle.lent.specs.Told.{number_of};
 
+use lent::{Reason, Refusal};
 use sheet_form::MEMBERS;
 use wkb_kinds::Kind;
 
-// Where a walk over the numbers stands: the next number, the next lent byte, the points so far, and that nothing was wrong.
+// Where a walk over the numbers stands: the next number, the next lent byte, and the points so far. Where something is wrong it comes to none.
 #[derive(Clone, Copy)]
 pub struct Walk {
     at: usize,
     to: usize,
     points: usize,
-    good: bool,
-}
-
-// A byte as a number.
-fn wide(b: u8) -> u32
-    ensures { (result ≡ b) × (result < 256) }
-{
-    b as u32
 }
 
 // The bits of the number at a place.
@@ -42,34 +36,26 @@ fn bits(numbers: &[u8], i: usize) -> u32
     ensures { result ≡ word_at true numbers.now (4 * i) }
 {
     let at = 4 * i;
-    wide(numbers[at])
-        + 256 * wide(numbers[at + 1])
-        + 65_536 * wide(numbers[at + 2])
-        + 16_777_216 * wide(numbers[at + 3])
+    u32::from_le_bytes([
+        numbers[at],
+        numbers[at + 1],
+        numbers[at + 2],
+        numbers[at + 3],
+    ])
 }
 
-// The number is from -10,000,000 to 10,000,000.
+// The number of these bits is from -10,000,000 to 10,000,000.
 fn in_range(b: u32) -> bool
     ensures { result ≡ in_range (to_z w32 b) }
 {
-    b <= 10_000_000 || b >= 4_284_967_296
+    b.cast_signed().unsigned_abs() <= 10_000_000
 }
 
-// The number of its bits.
-fn signed(b: u32) -> i64
-    ensures { (result ≡ to_z w32 b) × Within 4294967296 result }
-{
-    if b < 2_147_483_648 {
-        return b as i64;
-    }
-    b as i64 - 4_294_967_296
-}
-
-// The pattern of the double that equals the number.
+// The pattern of the double that equals the number of these bits.
 fn pattern(b: u32) -> u64
     ensures { result ≡ pattern_of (to_z w32 b) }
 {
-    lent_fields::pattern(signed(b) as f64)
+    lent_fields::pattern(f64::from(b.cast_signed()))
 }
 
 // Writes a geometry's header, little-endian.
@@ -80,42 +66,29 @@ fn header(out: &mut [u8], to: usize, kind: Kind, n: u32)
     wkb_header::put(out, to, kind.number(), n);
 }
 
-// The walk with something wrong.
-fn wrong(w: Walk) -> Walk
-    ensures { result.good ≡ false }
-{
-    Walk {
-        at: w.at,
-        to: w.to,
-        points: w.points,
-        good: false,
-    }
-}
-
 // A point in range.
-fn point(numbers: &[u8], out: &mut [u8], w: Walk) -> Walk
+fn point(numbers: &[u8], out: &mut [u8], w: Walk) -> Option<Walk>
     requires { Fair (numbers_in numbers.now) w }
     ensures { Went (emit_point (drop w.at (numbers_in numbers.now))) (numbers_in numbers.now) w out.old result out.new }
 {
     if numbers.len() / 4 - w.at < 2 {
-        return wrong(w);
+        return None;
     }
     let x = bits(numbers, w.at);
     let y = bits(numbers, w.at + 1);
     if !in_range(x) {
-        return wrong(w);
+        return None;
     }
     if !in_range(y) {
-        return wrong(w);
+        return None;
     }
     lent_little::put(out, w.to, pattern(x), 8);
     lent_little::put(out, w.to + 8, pattern(y), 8);
-    Walk {
+    Some(Walk {
         at: w.at + 2,
         to: w.to + 16,
         points: w.points + 1,
-        good: true,
-    }
+    })
 }
 
 // A count is within the limits of its level.
@@ -177,15 +150,14 @@ fn head(out: &mut [u8], w: Walk, level: u32, n: u32) -> Walk
     }
     Walk {
         at: w.at + 1,
-        to: to,
+        to,
         points: w.points,
-        good: true,
     }
 }
 
 // A thing of a level: a point, or a count within its limits and so many things of the level below.
 #[cycle(thing_things)]
-fn thing(numbers: &[u8], out: &mut [u8], w: Walk, level: u32) -> Walk
+fn thing(numbers: &[u8], out: &mut [u8], w: Walk, level: u32) -> Option<Walk>
     requires { Fair (numbers_in numbers.now) w }
     ensures { Went (emit level (drop w.at (numbers_in numbers.now))) (numbers_in numbers.now) w out.old result out.new }
 {
@@ -193,14 +165,14 @@ fn thing(numbers: &[u8], out: &mut [u8], w: Walk, level: u32) -> Walk
         return point(numbers, out, w);
     }
     if numbers.len() / 4 == w.at {
-        return wrong(w);
+        return None;
     }
     let n = bits(numbers, w.at);
     if !count_fits(level, n) {
-        return wrong(w);
+        return None;
     }
     if !closes(numbers, w.at + 1, level, n) {
-        return wrong(w);
+        return None;
     }
     let v = head(out, w, level, n);
     things(numbers, out, v, level - 1, n)
@@ -208,169 +180,132 @@ fn thing(numbers: &[u8], out: &mut [u8], w: Walk, level: u32) -> Walk
 
 // So many things of a level, one behind the other.
 #[cycle(thing_things)]
-fn things(numbers: &[u8], out: &mut [u8], w: Walk, level: u32, n: u32) -> Walk
+fn things(numbers: &[u8], out: &mut [u8], w: Walk, level: u32, n: u32) -> Option<Walk>
     requires { Fair (numbers_in numbers.now) w }
     ensures { Went (emit_many (emit level) n (drop w.at (numbers_in numbers.now))) (numbers_in numbers.now) w out.old result out.new }
 {
     let mut v = w;
-    let mut i: u32 = 0;
-    while i < n {
-        v = thing(numbers, out, v, level);
-        if !v.good {
-            return v;
-        }
-        i += 1;
+    for _ in 0..n {
+        v = thing(numbers, out, v, level)?;
     }
-    v
+    Some(v)
 }
 
 // A table piece: a Triangle of one ring of four points, the fourth the first again.
-fn piece(numbers: &[u8], out: &mut [u8], w: Walk) -> Walk
+fn piece(numbers: &[u8], out: &mut [u8], w: Walk) -> Option<Walk>
     requires { Fair (numbers_in numbers.now) w × (w.to ≤ 20 * w.at) }
     ensures { Went (emit_piece (drop w.at (numbers_in numbers.now))) (numbers_in numbers.now) w out.old result out.new }
 {
     if numbers.len() / 4 - w.at < 6 {
-        return wrong(w);
+        return None;
     }
     header(out, w.to, Kind::Triangle, 1);
     lent_little::put(out, w.to + 9, 4, 4);
-    let v = things(
-        numbers,
-        out,
-        Walk {
-            at: w.at,
-            to: w.to + 13,
-            points: w.points,
-            good: true,
-        },
-        0,
-        3,
-    );
-    if !v.good {
-        return v;
-    }
+    let ring = Walk {
+        at: w.at,
+        to: w.to + 13,
+        points: w.points,
+    };
+    let v = things(numbers, out, ring, 0, 3)?;
     lent_little::put(out, v.to, pattern(bits(numbers, w.at)), 8);
     lent_little::put(out, v.to + 8, pattern(bits(numbers, w.at + 1)), 8);
-    Walk {
+    Some(Walk {
         at: v.at,
         to: v.to + 16,
         points: v.points,
-        good: true,
-    }
+    })
 }
 
 // So many table pieces.
-fn pieces(numbers: &[u8], out: &mut [u8], w: Walk, n: u32) -> Walk
+fn pieces(numbers: &[u8], out: &mut [u8], w: Walk, n: u32) -> Option<Walk>
     requires { Fair (numbers_in numbers.now) w × (w.to ≤ 20 * w.at) }
     ensures { Went (emit_many emit_piece n (drop w.at (numbers_in numbers.now))) (numbers_in numbers.now) w out.old result out.new }
 {
     let mut v = w;
-    let mut i: u32 = 0;
-    while i < n {
-        v = piece(numbers, out, v);
-        if !v.good {
-            return v;
-        }
-        i += 1;
+    for _ in 0..n {
+        v = piece(numbers, out, v)?;
     }
-    v
+    Some(v)
 }
 
 // The headers of the sheet and of its table, the pieces, and the polygons.
-fn body(numbers: &[u8], out: &mut [u8], t: u32, p: u32) -> Walk
+fn body(numbers: &[u8], out: &mut [u8], t: u32, p: u32) -> Option<Walk>
     requires { (1 ≤ length (numbers_in numbers.now)) × (length (numbers_in numbers.now) ≤ 16450) × (p < members) × (polygon_count t (drop 1 (numbers_in numbers.now)) ≡ pos p) }
     ensures { Went (followed (emit_table t (drop 1 (numbers_in numbers.now))) (emit 4)) (numbers_in numbers.now) beginning out.old result out.new }
 {
     header(out, 0, Kind::Collection, p + 1);
     header(out, 9, Kind::Tin, t);
-    let v = pieces(
-        numbers,
-        out,
-        Walk {
-            at: 1,
-            to: 18,
-            points: 0,
-            good: true,
-        },
-        t,
-    );
-    if !v.good {
-        return v;
-    }
-    thing(
-        numbers,
-        out,
-        Walk {
-            at: v.at,
-            to: v.to,
-            points: 0,
-            good: true,
-        },
-        4,
-    )
+    let table = Walk {
+        at: 1,
+        to: 18,
+        points: 0,
+    };
+    let v = pieces(numbers, out, table, t)?;
+    let polygons = Walk {
+        at: v.at,
+        to: v.to,
+        points: 0,
+    };
+    thing(numbers, out, polygons, 4)
 }
 
-// The whole sheet, with no number left over and at most 4,096 polygon points.
-fn sheet(numbers: &[u8], out: &mut [u8]) -> Walk
+// The whole sheet, with no number left over and at most 4,096 polygon points: how many bytes it has.
+fn sheet(numbers: &[u8], out: &mut [u8]) -> Option<usize>
     requires { length (numbers_in numbers.now) ≤ 16450 }
     ensures { Ended (emit_sheet (numbers_in numbers.now)) out.old result out.new }
 {
-    let none = Walk {
-        at: 0,
-        to: 0,
-        points: 0,
-        good: false,
-    };
     let count = numbers.len() / 4;
     if count == 0 {
-        return none;
+        return None;
     }
     let t = bits(numbers, 0);
     if t < 2 {
-        return none;
+        return None;
     }
     if t > 1024 {
-        return none;
+        return None;
     }
     let place = 1 + 6 * t as usize;
     if count <= place {
-        return none;
+        return None;
     }
     let p = bits(numbers, place);
     if MEMBERS <= p {
-        return none;
+        return None;
     }
-    let u = body(numbers, out, t, p);
-    if !u.good {
-        return u;
-    }
+    let u = body(numbers, out, t, p)?;
     if u.at != count {
-        return wrong(u);
+        return None;
     }
     if u.points > 4096 {
-        return wrong(u);
+        return None;
     }
-    u
+    Some(u.to)
 }
 
 // Writes the normal bytes of the sheet that the numbers give; all of it is walked over first, with a byte of its own. 42 where they give none.
-pub fn write(numbers: &[u8], out: &mut [u8]) -> u64
-    ensures { Answered (write_outcome (sheet_given members numbers.now)) out.old result out.new }
+pub fn write(numbers: &[u8], out: &mut [u8]) -> Result<u32, Refusal>
+    ensures answered { Answered (write_outcome (sheet_given members numbers.now)) out.old (number_of result) out.new }
+    ensures refused { IfErr result (λ r. (0 < code_of r.reason) × (code_of r.reason < 256)) }
 {
+    let none = Refusal {
+        reason: Reason::NoSheet,
+        item: 0,
+    };
     if numbers.len() % 4 != 0 {
-        return 42;
+        return Err(none);
     }
     if numbers.len() > 65_800 {
-        return 42;
+        return Err(none);
     }
     let mut room = [0u8; 1];
-    let seen = sheet(numbers, &mut room);
-    if !seen.good {
-        return 42;
-    }
-    if seen.to > out.len() {
-        return 40;
+    let size = sheet(numbers, &mut room).ok_or(none)?;
+    if size > out.len() {
+        return Err(Refusal {
+            reason: Reason::Room,
+            item: 0,
+        });
     }
     sheet(numbers, out);
-    seen.to as u64 * 256
+    Ok(size as u32)
 }

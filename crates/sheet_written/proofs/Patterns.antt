@@ -11,7 +11,7 @@ use lib.Ieee.Fits.{of_int-fits}
 use lib.IntN.{ℤ}
 use Rattle.whole.specs.Numbers.{Within}
 use Rattle.sheet_coordinate.specs.Coordinate.{held_of, coordinate_of}
-use Rattle.sheet_coordinate.specs.declared.Coordinate.TheVariants.{Whole}
+use Rattle.std.specs.Prelude.{Some}
 use Rattle.sheet_coordinate.proofs.Doubles.{int_value, sign}
 use Rattle.sheet_coordinate.proofs.Meaning.{coordinate_is}
 use Rattle.sheet_written.specs.Normal.{pattern_of}
@@ -36,5 +36,5 @@ equals_itself nan s k v = absurd v
 equals_itself (inf t) s k v = absurd v
 equals_itself (fin t m e) s k v = rw (eq-eqb (m * up e * down e) (m * up e * down e) refl) (same_sign t _)
 
-pub pattern_is : (z : ℤ) → Within 10_000_000 z → coordinate_of (of_bits binary64 (pattern_of z)) ≡ Whole (held_of z)
+pub pattern_is : (z : ℤ) → Within 10_000_000 z → coordinate_of (of_bits binary64 (pattern_of z)) ≡ Some (held_of z)
 pattern_is z r = rw (pattern_double z) ((coordinate_is (of_int binary64 z) z r).1 (equals_itself (of_int binary64 z) (sign z) _ (int_value z r)))

@@ -2,8 +2,9 @@
 // line on standard error says so), and prints its listing.
 #![tactic(auto)]
 
-ghost use Rattle.std.specs.Prelude.{◌≡◌, ◌≤◌, length, IfOk};
+ghost use Rattle.std.specs.Prelude.{◌≡◌, length};
 
+use input::read_full;
 use std::io;
 use std::io::{Read, Write};
 
@@ -18,21 +19,6 @@ fn room_to_print() -> [u8; 6600]
     ensures { 6600 ≡ length result }
 {
     [0; 6600]
-}
-
-// Reads until the bytes are full or the input ends, and answers how many there are.
-fn read_full<R: Read>(input: &mut R, bytes: &mut [u8]) -> io::Result<usize>
-    ensures { IfOk result (λ n. n ≤ length bytes.new) }
-{
-    let mut n: usize = 0;
-    while n < bytes.len() {
-        let more = input.read(&mut bytes[n..])?;
-        if more == 0 {
-            return Ok(n);
-        }
-        n += more;
-    }
-    Ok(n)
 }
 
 // Says that the input goes on behind the first 65,536 bytes, where it does.

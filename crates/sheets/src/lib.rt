@@ -20,14 +20,14 @@ pub fn sheet_numbers(sheet: &[u8], out: &mut [u8]) -> u64
 pub fn sheet_position(sheet: &[u8], mode: u32, out: &mut [u8]) -> u64
     ensures { Answered (sheet_position mode sheet.now) out.old result out.new }
 {
-    sheets_position::position(sheet, mode, out)
+    lent::answer(sheets_position::position(sheet, mode, out))
 }
 
 // The normal bytes of the sheet that the numbers give, as little-endian i32; the item is the number of bytes.
 pub fn sheet_write(numbers: &[u8], out: &mut [u8]) -> u64
     ensures { Answered (sheet_write numbers.now) out.old result out.new }
 {
-    sheet_writer::write(numbers, out)
+    lent::answer(sheet_writer::write(numbers, out))
 }
 
 // The owners of each triangle before repair, in table order, as a little-endian u64 whose bit k-1 stands for polygon k; the item is the
@@ -63,7 +63,7 @@ pub fn sheet_listing(sheet: &[u8], out: &mut [u8]) -> u64
 pub fn sheet_write_blob(numbers: &[u8], out: &mut [u8]) -> u64
     ensures { Answered (sheet_write_blob numbers.now) out.old result out.new }
 {
-    sheet_blob_writer::write(numbers, out)
+    lent::answer(sheet_blob_writer::write(numbers, out))
 }
 
 // ---- the entries that take what is asked as numbers
@@ -71,7 +71,7 @@ pub fn sheet_write_blob(numbers: &[u8], out: &mut [u8]) -> u64
 pub fn sheet_numbers_by(sheet: &[u8], mode: u32, out: &mut [u8]) -> u64
     ensures { Answered (sheet_numbers_by mode sheet.now) out.old result out.new }
 {
-    sheets_numbers::numbers(sheet, mode, out)
+    lent::answer(sheets_numbers::numbers(sheet, mode, out))
 }
 
 // The double area of each polygon, from its corners alone, of a sheet that is read in a mode: a little-endian i64 for each, in number order; the item is the number
@@ -79,16 +79,16 @@ pub fn sheet_numbers_by(sheet: &[u8], mode: u32, out: &mut [u8]) -> u64
 pub fn sheet_areas(sheet: &[u8], mode: u32, out: &mut [u8]) -> u64
     ensures { Answered (sheet_areas mode sheet.now) out.old result out.new }
 {
-    sheets_numbers::areas(sheet, mode, out)
+    lent::answer(sheets_numbers::areas(sheet, mode, out))
 }
 
 // The owners of each triangle before repair, of a sheet that is read in a mode.
 pub fn sheet_owner_sets_by(sheet: &[u8], mode: u32, out: &mut [u8]) -> u64
     ensures { Answered (sheet_owner_sets_by mode sheet.now) out.old result out.new }
 {
-    sheets_answers::answer(
+    lent::answer(sheets_answers::answer(
         Asked {
-            mode: mode,
+            mode,
             way: 0,
             wanted: Wanted::OwnerSets,
             indexed: false,
@@ -96,41 +96,41 @@ pub fn sheet_owner_sets_by(sheet: &[u8], mode: u32, out: &mut [u8]) -> u64
         sheet,
         &[0u8; 0],
         out,
-    )
+    ))
 }
 
 // The number of each triangle after repair in a way, of a sheet that is read in a mode.
 pub fn sheet_owners_by(sheet: &[u8], mode: u32, way: u32, out: &mut [u8]) -> u64
     ensures { Answered (sheet_owners_by mode way sheet.now) out.old result out.new }
 {
-    sheets_answers::answer(
+    lent::answer(sheets_answers::answer(
         Asked {
-            mode: mode,
-            way: way,
+            mode,
+            way,
             wanted: Wanted::Owners,
             indexed: false,
         },
         sheet,
         &[0u8; 0],
         out,
-    )
+    ))
 }
 
 // The boundary sides of a polygon after repair in a way, of a sheet that is read in a mode.
 pub fn sheet_boundary_by(sheet: &[u8], mode: u32, way: u32, polygon: u32, out: &mut [u8]) -> u64
     ensures { Answered (sheet_boundary_by mode way polygon sheet.now) out.old result out.new }
 {
-    sheets_answers::answer(
+    lent::answer(sheets_answers::answer(
         Asked {
-            mode: mode,
-            way: way,
+            mode,
+            way,
             wanted: Wanted::Boundary(polygon),
             indexed: false,
         },
         sheet,
         &[0u8; 0],
         out,
-    )
+    ))
 }
 
 // The boundary sides of a polygon after repair in a way, joined into closed rings, of a sheet that is read in a mode: a WKB MultiLineString; the item is the number
@@ -138,24 +138,24 @@ pub fn sheet_boundary_by(sheet: &[u8], mode: u32, way: u32, polygon: u32, out: &
 pub fn sheet_rings(sheet: &[u8], mode: u32, way: u32, polygon: u32, out: &mut [u8]) -> u64
     ensures { Answered (sheet_rings mode way polygon sheet.now) out.old result out.new }
 {
-    sheets_answers::answer(
+    lent::answer(sheets_answers::answer(
         Asked {
-            mode: mode,
-            way: way,
+            mode,
+            way,
             wanted: Wanted::Rings(polygon),
             indexed: false,
         },
         sheet,
         &[0u8; 0],
         out,
-    )
+    ))
 }
 
 // The printed listing of a sheet that is read in a mode and repaired in a way.
 pub fn sheet_listing_by(sheet: &[u8], mode: u32, way: u32, out: &mut [u8]) -> u64
     ensures { Answered (sheet_listing_by mode way sheet.now) out.old result out.new }
 {
-    sheets_listing::listing(sheet, mode, way, out)
+    lent::answer(sheets_listing::listing(sheet, mode, way, out))
 }
 
 // The number of bytes that sheet_rings writes, as the item. No bytes are lent.
@@ -163,17 +163,17 @@ pub fn sheet_ring_room(sheet: &[u8], mode: u32, way: u32, polygon: u32) -> u64
     ensures { result ≡ answer_of (sheet_ring_room mode way polygon sheet.now) [] }
 {
     let mut none = [0u8; 0];
-    sheets_answers::answer(
+    lent::answer(sheets_answers::answer(
         Asked {
-            mode: mode,
-            way: way,
+            mode,
+            way,
             wanted: Wanted::RingRoom(polygon),
             indexed: false,
         },
         sheet,
         &[0u8; 0],
         &mut none,
-    )
+    ))
 }
 
 // What is at the point: the number of the polygon that owns it after repair in a way, as the item, of a sheet that is read in a mode. No bytes are lent.
@@ -181,17 +181,17 @@ pub fn sheet_at(sheet: &[u8], mode: u32, way: u32, x: i32, y: i32) -> u64
     ensures { result ≡ answer_of (sheet_at mode way x y sheet.now) [] }
 {
     let mut none = [0u8; 0];
-    sheets_answers::answer(
+    lent::answer(sheets_answers::answer(
         Asked {
-            mode: mode,
-            way: way,
+            mode,
+            way,
             wanted: Wanted::At(x, y),
             indexed: false,
         },
         sheet,
         &[0u8; 0],
         &mut none,
-    )
+    ))
 }
 
 // ---- the index, and the entries that take one
@@ -200,16 +200,16 @@ pub fn sheet_at(sheet: &[u8], mode: u32, way: u32, x: i32, y: i32) -> u64
 pub fn sheet_index(sheet: &[u8], mode: u32, out: &mut [u8]) -> u64
     ensures { Answered (sheet_index mode sheet.now) out.old result out.new }
 {
-    sheets_index::index(sheet, mode, out)
+    lent::answer(sheets_index::index(sheet, mode, out))
 }
 
 // The owners of each triangle before repair, with an index that is lent; 53 where it isn't the table's own.
 pub fn sheet_owner_sets_indexed(sheet: &[u8], index: &[u8], mode: u32, out: &mut [u8]) -> u64
     ensures { Answered (sheet_owner_sets_indexed mode index.now sheet.now) out.old result out.new }
 {
-    sheets_answers::answer(
+    lent::answer(sheets_answers::answer(
         Asked {
-            mode: mode,
+            mode,
             way: 0,
             wanted: Wanted::OwnerSets,
             indexed: true,
@@ -217,24 +217,24 @@ pub fn sheet_owner_sets_indexed(sheet: &[u8], index: &[u8], mode: u32, out: &mut
         sheet,
         index,
         out,
-    )
+    ))
 }
 
 // The number of each triangle after repair in a way, with an index that is lent.
 pub fn sheet_owners_indexed(sheet: &[u8], index: &[u8], mode: u32, way: u32, out: &mut [u8]) -> u64
     ensures { Answered (sheet_owners_indexed mode way index.now sheet.now) out.old result out.new }
 {
-    sheets_answers::answer(
+    lent::answer(sheets_answers::answer(
         Asked {
-            mode: mode,
-            way: way,
+            mode,
+            way,
             wanted: Wanted::Owners,
             indexed: true,
         },
         sheet,
         index,
         out,
-    )
+    ))
 }
 
 // The boundary sides of a polygon after repair in a way, with an index that is lent.
@@ -248,17 +248,17 @@ pub fn sheet_boundary_indexed(
 ) -> u64
     ensures { Answered (sheet_boundary_indexed mode way polygon index.now sheet.now) out.old result out.new }
 {
-    sheets_answers::answer(
+    lent::answer(sheets_answers::answer(
         Asked {
-            mode: mode,
-            way: way,
+            mode,
+            way,
             wanted: Wanted::Boundary(polygon),
             indexed: true,
         },
         sheet,
         index,
         out,
-    )
+    ))
 }
 
 // The same sides joined into closed rings, with an index that is lent.
@@ -272,15 +272,15 @@ pub fn sheet_rings_indexed(
 ) -> u64
     ensures { Answered (sheet_rings_indexed mode way polygon index.now sheet.now) out.old result out.new }
 {
-    sheets_answers::answer(
+    lent::answer(sheets_answers::answer(
         Asked {
-            mode: mode,
-            way: way,
+            mode,
+            way,
             wanted: Wanted::Rings(polygon),
             indexed: true,
         },
         sheet,
         index,
         out,
-    )
+    ))
 }

@@ -1,14 +1,15 @@
-// The road of the entries that judge, by what is asked: the exported entries only fill it in. Each answers item × 256 + code.
+// The road of the entries that judge, by what is asked: the exported entries only fill it in. Each answers its item, or a refusal.
 #![tactic(auto)]
 
-ghost use Rattle.std.specs.Prelude.{◌≡◌, List, [], ℕ, ◌≤◌, length};
+ghost use Rattle.std.specs.Prelude.{◌≡◌, List, [], ℕ, ◌/◌, ◌≤◌, min, length};
 ghost use Rattle.lent.specs.Answered.{Answered, answer_of};
+ghost use Rattle.lent.specs.Told.{number_of};
 ghost use Rattle.judged.specs.Judged.{Judged};
 ghost use Rattle.judged.specs.Held.{JudgedHeld, Rooms};
 ghost use Rattle.outcomes.specs.declared.Wanted.TheVariants.{Boundary, Rings, RingRoom};
 ghost use Rattle.outcomes.specs.Entries.{on_sheet, goes_on, answer_to};
 
-use judged_sets::Owning;
+use lent::{Reason, Refusal};
 use outcomes::{Asked, Wanted};
 use plane::OFFSET;
 
@@ -31,12 +32,15 @@ fn boundary(
     opposite: &[usize],
     sets: &[u64],
     out: &mut [u8],
-) -> u64
+) -> Result<u32, Refusal>
     requires { (j : Judged) × JudgedHeld j numbers.now opposite.now sets.now }
-    ensures { (j : Judged) → JudgedHeld j numbers.now opposite.now sets.now → Answered (goes_on way (Boundary polygon) j) out.old result out.new }
+    ensures { (j : Judged) → JudgedHeld j numbers.now opposite.now sets.now → Answered (goes_on way (Boundary polygon) j) out.old (number_of result) out.new }
 {
     if !on_sheet(polygon, numbers, sets.len()) {
-        return 41;
+        return Err(Refusal {
+            reason: Reason::OffSheet,
+            item: 0,
+        });
     }
     repair_side_bytes::boundary(way, numbers, opposite, sets, polygon as u8, out)
 }
@@ -49,23 +53,35 @@ fn rings(
     opposite: &[usize],
     sets: &[u64],
     out: &mut [u8],
-) -> u64
+) -> Result<u32, Refusal>
     requires { (j : Judged) × JudgedHeld j numbers.now opposite.now sets.now }
-    ensures { (j : Judged) → JudgedHeld j numbers.now opposite.now sets.now → Answered (goes_on way (Rings polygon) j) out.old result out.new }
+    ensures { (j : Judged) → JudgedHeld j numbers.now opposite.now sets.now → Answered (goes_on way (Rings polygon) j) out.old (number_of result) out.new }
 {
     if !on_sheet(polygon, numbers, sets.len()) {
-        return 41;
+        return Err(Refusal {
+            reason: Reason::OffSheet,
+            item: 0,
+        });
     }
     sheet_ring_bytes::rings(way, numbers, opposite, sets, polygon as u8, out)
 }
 
 // The room that these take, as the item.
-fn ring_room(way: u32, polygon: u32, numbers: &[u32], opposite: &[usize], sets: &[u64]) -> u64
+fn ring_room(
+    way: u32,
+    polygon: u32,
+    numbers: &[u32],
+    opposite: &[usize],
+    sets: &[u64],
+) -> Result<u32, Refusal>
     requires { (j : Judged) × JudgedHeld j numbers.now opposite.now sets.now }
-    ensures { (j : Judged) → JudgedHeld j numbers.now opposite.now sets.now → result ≡ answer_of (goes_on way (RingRoom polygon) j) [] }
+    ensures { (j : Judged) → JudgedHeld j numbers.now opposite.now sets.now → number_of result ≡ answer_of (goes_on way (RingRoom polygon) j) [] }
 {
     if !on_sheet(polygon, numbers, sets.len()) {
-        return 41;
+        return Err(Refusal {
+            reason: Reason::OffSheet,
+            item: 0,
+        });
     }
     sheet_ring_bytes::ring_room(way, numbers, opposite, sets, polygon as u8)
 }
@@ -78,9 +94,9 @@ fn go_on(
     opposite: &[usize],
     sets: &[u64],
     out: &mut [u8],
-) -> u64
+) -> Result<u32, Refusal>
     requires { (j : Judged) × JudgedHeld j numbers.now opposite.now sets.now }
-    ensures { (j : Judged) → JudgedHeld j numbers.now opposite.now sets.now → Answered (goes_on way wanted j) out.old result out.new }
+    ensures { (j : Judged) → JudgedHeld j numbers.now opposite.now sets.now → Answered (goes_on way wanted j) out.old (number_of result) out.new }
 {
     match wanted {
         Wanted::OwnerSets => lent_sets::each(sets, out),
@@ -101,11 +117,11 @@ fn answer_in(
     opposite: &mut [usize],
     sets: &mut [u64],
     out: &mut [u8],
-) -> u64
+) -> Result<u32, Refusal>
     requires { Rooms sheet.now numbers.old opposite.old sets.old }
-    ensures { Answered (answer_to asked index.now sheet.now) out.old result out.new }
+    ensures { Answered (answer_to asked index.now sheet.now) out.old (number_of result) out.new }
 {
-    match judged::judged_with(
+    let n = judged::judged_with(
         sheet,
         asked.mode,
         asked.indexed,
@@ -113,48 +129,31 @@ fn answer_in(
         numbers,
         opposite,
         sets,
-    ) {
-        Owning::Refused(code, item) => item as u64 * 256 + code as u64,
-        Owning::Sets(n) => {
-            let wanted = asked.wanted;
-            go_on(
-                asked.way,
-                wanted,
-                numbers,
-                &opposite[..3 * n],
-                &sets[..n],
-                out,
-            )
-        }
-    }
-}
-
-// Of at most 8,192 bytes, in short lists.
-fn answer_few(asked: Asked, sheet: &[u8], index: &[u8], out: &mut [u8]) -> u64
-    requires { length sheet.now ≤ 8192 }
-    ensures { Answered (answer_to asked index.now sheet.now) out.old result out.new }
-{
-    let mut numbers = [0u32; 2048];
-    let mut opposite = [0usize; 1024];
-    let mut sets = [0u64; 342];
-    answer_in(
-        asked,
-        sheet,
-        index,
-        &mut numbers,
-        &mut opposite,
-        &mut sets,
+    )?;
+    go_on(
+        asked.way,
+        asked.wanted,
+        numbers,
+        &opposite[..3 * n],
+        &sets[..n],
         out,
     )
 }
 
-// Of any bytes, in long lists.
-fn answer_many(asked: Asked, sheet: &[u8], index: &[u8], out: &mut [u8]) -> u64
-    ensures { Answered (answer_to asked index.now sheet.now) out.old result out.new }
+// The same in lists of these lengths, which are enough for the bytes.
+fn answer_with<const NUMBERS: usize, const SIDES: usize, const TRIANGLES: usize>(
+    asked: Asked,
+    sheet: &[u8],
+    index: &[u8],
+    out: &mut [u8],
+) -> Result<u32, Refusal>
+    requires { (min 16450 (length sheet.now / 4) ≤ NUMBERS) × (min 3072 (length sheet.now / 8) ≤ SIDES) × (min 1024 (length sheet.now / 24) ≤ TRIANGLES)
+        × (NUMBERS ≤ 16450) × (SIDES ≤ 3072) × (TRIANGLES ≤ 1024) }
+    ensures { Answered (answer_to asked index.now sheet.now) out.old (number_of result) out.new }
 {
-    let mut numbers = [0u32; 16450];
-    let mut opposite = [0usize; 3072];
-    let mut sets = [0u64; 1024];
+    let mut numbers = [0u32; NUMBERS];
+    let mut opposite = [0usize; SIDES];
+    let mut sets = [0u64; TRIANGLES];
     answer_in(
         asked,
         sheet,
@@ -167,11 +166,11 @@ fn answer_many(asked: Asked, sheet: &[u8], index: &[u8], out: &mut [u8]) -> u64
 }
 
 // The road of the entries that judge: the bytes come to a judged sheet, which goes on to what is wanted. No list is longer than the bytes ask.
-pub fn answer(asked: Asked, sheet: &[u8], index: &[u8], out: &mut [u8]) -> u64
-    ensures { Answered (answer_to asked index.now sheet.now) out.old result out.new }
+pub fn answer(asked: Asked, sheet: &[u8], index: &[u8], out: &mut [u8]) -> Result<u32, Refusal>
+    ensures { Answered (answer_to asked index.now sheet.now) out.old (number_of result) out.new }
 {
     if sheet.len() <= 8192 {
-        return answer_few(asked, sheet, index, out);
+        return answer_with::<2048, 1024, 342>(asked, sheet, index, out);
     }
-    answer_many(asked, sheet, index, out)
+    answer_with::<16450, 3072, 1024>(asked, sheet, index, out)
 }

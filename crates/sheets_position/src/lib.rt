@@ -3,46 +3,58 @@
 
 ghost use Rattle.std.specs.Prelude.{◌≡◌, length};
 ghost use Rattle.lent.specs.Answered.{Answered};
+ghost use Rattle.lent.specs.Told.{number_of};
 ghost use Rattle.sheet_modes.specs.Held.{around_of};
 ghost use Rattle.outcomes.specs.Entries.{first_of, telling, sheet_position};
 
-use sheet_modes::{Around, Got};
+use lent::{Reason, Refusal};
+use sheet_blob::Opened;
 
 // An answer and a byte position, each as a little-endian u64; the item is their number, 16.
-fn tell(answer: u64, position: u64, out: &mut [u8]) -> u64
-    ensures { Answered (telling answer position) out.old result out.new }
+fn tell(answer: u64, position: u64, out: &mut [u8]) -> Result<u32, Refusal>
+    ensures { Answered (telling answer position) out.old (number_of result) out.new }
 {
     if out.len() < 16 {
-        return 40;
+        return Err(Refusal {
+            reason: Reason::Room,
+            item: 0,
+        });
     }
     lent_little::put(out, 0, answer, 8);
     lent_little::put(out, 8, position, 8);
-    4096
+    Ok(16)
 }
 
-// The bytes of a blob's first number, or none.
-fn first(around: Around) -> u64
+// How many bytes a blob's number takes; 0 where nothing stands around the sheet.
+fn first(around: Option<Opened>) -> u32
     ensures { result ≡ length (first_of (around_of around)) }
 {
     match around {
-        Around::Nothing => 0,
-        Around::Header(_) => 4,
+        None => 0,
+        Some(_) => 4,
     }
 }
 
 // The answer of the numbers entry in the mode with room enough, and the byte position of the field at fault, 0 where the sheet is read. In an unknown
 // mode the answer told is 57, and 52 where the envelope around the sheet isn't the frame.
-pub fn position(sheet: &[u8], mode: u32, out: &mut [u8]) -> u64
-    ensures { Answered (sheet_position mode sheet.now) out.old result out.new }
+pub fn position(sheet: &[u8], mode: u32, out: &mut [u8]) -> Result<u32, Refusal>
+    ensures { Answered (sheet_position mode sheet.now) out.old (number_of result) out.new }
 {
     let mut numbers = [0u32; 16450];
     match sheet_modes::read(sheet, mode, &mut numbers) {
-        Got::Refused(code, item, at) => tell(item as u64 * 256 + code as u64, at as u64, out),
-        Got::Sheet(n, around) => {
+        Err(fault) => tell(lent::answer(Err(fault.refusal)), fault.position as u64, out),
+        Ok((n, around)) => {
             if !sheet_modes::framed(&numbers[..n], around) {
-                return tell(52, 0, out);
+                return tell(
+                    lent::answer(Err(Refusal {
+                        reason: Reason::OtherFrame,
+                        item: 0,
+                    })),
+                    0,
+                    out,
+                );
             }
-            tell((first(around) + 4 * n as u64) * 256, 0, out)
+            tell(lent::answer(Ok(first(around) + 4 * n as u32)), 0, out)
         }
     }
 }

@@ -5,7 +5,7 @@ use mathlib.Core.Path.{◌≡◌, refl, sym, ◌∙◌, ap, subst}
 use mathlib.Core.Logic.{◌↔◌}
 use mathlib.Core.Bool.{Bool, true, false, not}
 use mathlib.Core.List.{List, [], ◌∷◌, ◌++◌, flat_map}
-use mathlib.Core.Option.{some}
+use mathlib.Core.Option.{Option, none, some}
 use Prim.Native.Nat.{ℕ, zero, suc, ◌+◌, ◌-◌, ◌*◌, ◌/◌, ◌%◌, ◌<◌}
 use native.Mathlib.Omega.{arith}
 use native.Mathlib.Decide.{dec_lt}
@@ -52,6 +52,20 @@ fault_passed bad before t l e = ap (λ b. elim b [ true ↦ some (suc (length be
 fault_found : (bad : List Triangle → Triangle → Bool) (before : List Triangle) (t : Triangle) (l : List Triangle) → bad before t ≡ true
     → first_fault bad before (t ∷ l) ≡ some (suc (length before))
 fault_found bad before t l e = ap (λ b. elim b [ true ↦ some (suc (length before)) | false ↦ first_fault bad (t ∷ before) l ]) e
+
+-- A fault of a number, and no fault, from the item: the numbers are counted from 1.
+pub fault_is : (n : ℕ) (o : Option ℕ) → 0 < n → n ≡ item_of o → o ≡ some n
+fault_is n none h e = absurd (omega arith)
+fault_is n (some m) h e = sym (ap some e)
+
+no_fault : (b : Bool) (n : ℕ) (o : Option ℕ) → (0 ≡ item_of o → o ≡ none)
+    → 0 ≡ item_of (elim b [ true ↦ some (suc n) | false ↦ o ]) → ◌≡◌ {A = Option ℕ} (elim b [ true ↦ some (suc n) | false ↦ o ]) none
+no_fault true n o r e = absurd (omega arith)
+no_fault false n o r e = r e
+
+pub fault_none : (bad : List Triangle → Triangle → Bool) (before l : List Triangle) → 0 ≡ item_of (first_fault bad before l) → first_fault bad before l ≡ none
+fault_none bad before [] e = refl
+fault_none bad before (t ∷ l) e = no_fault (bad before t) (length before) (first_fault bad (t ∷ before) l) (fault_none bad (t ∷ before) l) e
 
 -- ---- rule A
 -- The test of the code and the test of the rule.

@@ -1,5 +1,5 @@
 -- The table as the code holds it: its corners as numbers, three for each triangle; its sides in table order, by triangle and then ab, bc, ca.
-use Rattle.std.specs.Prelude.{◌≡◌, Bool, false, List, [], ◌∷◌, ℕ, zero, suc, ◌-◌, ◌/◌, ◌%◌, ◌<◌, ℤ, pos, ◌-ℤ◌, length, get_or}
+use Rattle.std.specs.Prelude.{◌≡◌, Bool, false, List, [], ◌∷◌, ℕ, zero, suc, ◌-◌, ◌/◌, ◌%◌, ◌<◌, ℤ, pos, ◌-ℤ◌, length, get_or, Option as Answered, None, Some}
 use Rattle.std.proofs.Math.Option.{Option, none, some}
 use Rattle.whole.specs.Sums.{Among, bit}
 use Rattle.plane.specs.Boundaries.{boundary, sides_of}
@@ -58,6 +58,11 @@ Shares opposite counts s = (k : ℕ) → k < length opposite → SharesAt opposi
 abbrev pub item_of : Option ℕ → ℕ
 item_of none = 0
 item_of (some n) = n
+
+-- The number of a fault as the code answers it: the same, or none.
+abbrev pub found : Answered ℕ → Option ℕ
+found None = none
+found (Some n) = some n
 
 -- A side of an earlier triangle is the same as side k. (Sides by their codes, which are equal exactly if the sides are the same ordered pair.)
 abbrev pub Earlier : List ℕ → ℕ → Type 0

@@ -1,13 +1,12 @@
 -- Hanging sides in chains. The idea: a number of the list is taken apart digit by digit, and each store changes the digits of one part only; the side that is hung is the
 -- last one that begins at its corner, and the one that was the last is before it. Assumes nothing.
-use mathlib.Core.Path.{◌≡◌, refl, sym, ◌∙◌, ap, subst}
-use mathlib.Core.List.{List, [], ◌∷◌, map}
-use Prim.Native.Nat.{ℕ, zero, suc, ◌+◌, ◌*◌, ◌/◌, ◌%◌, ◌≤◌, ◌<◌}
+use mathlib.Core.Path.{◌≡◌, sym, ◌∙◌, ap, subst}
+use mathlib.Core.List.{List}
+use Prim.Native.Nat.{ℕ, suc, ◌+◌, ◌*◌, ◌/◌, ◌%◌, ◌<◌}
 use native.Mathlib.Omega.{arith}
 use native.Mathlib.Decide.{ℕ_discrete}
-use lib.ListN.{length, get_or, set, length-set, length-map}
+use lib.ListN.{length, get_or, set, length-set}
 use lib.Seq.{get_or-set_same, get_or-set_other}
-use Rattle.whole.specs.Sums.{All}
 use Rattle.table_sides.specs.Chains.{next_in, code_in, head_in, clear_in, begin_in, Last, ChainedTo}
 use Rattle.table_sides.proofs.Chains.{last_more, last_itself, last_none, last_same}
 use Rattle.table_chains.specs.Linking.{LinkedTo, Hung}

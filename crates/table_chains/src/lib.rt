@@ -1,7 +1,7 @@
 // The sides of a table hung in chains by the corner at which they begin: the first side of an earlier triangle (rule B), and the side across each side.
 #![tactic(auto)]
 
-ghost use Rattle.std.specs.Prelude.{◌≡◌, ℕ, suc, ◌-◌, ◌%◌, ◌≤◌, ◌<◌, length, get_or};
+ghost use Rattle.std.specs.Prelude.{◌≡◌, ℕ, suc, ◌-◌, ◌%◌, ◌≤◌, ◌<◌, length, get_or, MatchOption};
 ghost use Rattle.whole.specs.Tests.{Told};
 ghost use Rattle.whole.specs.Sums.{All};
 ghost use Rattle.whole_order.specs.Ascending.{Distinct};
@@ -16,10 +16,8 @@ pub fn unlinked(codes: &[u64], index: &mut [u64])
     requires { All (Within (length codes.now)) codes.now × (length codes.now ≤ 3072) × (length index.old ≡ length codes.now) }
     ensures { LinkedTo codes.now index.new 0 }
 {
-    let mut i: usize = 0;
-    while i < codes.len() {
-        index[i] = codes[i] * 4096;
-        i += 1;
+    for (i, code) in codes.iter().enumerate() {
+        index[i] = *code * 4096;
     }
 }
 
@@ -43,29 +41,27 @@ fn is_repeat(codes: &[u64], j: usize, k: usize) -> bool
     codes[j] == codes[k]
 }
 
-// The number, counted from 1, of the first triangle that has a side of an earlier one; 0 where none has, and then all sides hang in chains. Each side is given by a
-// code, by triangle and then ab, bc, ca; equal codes are the same ordered pair, and begin at one corner: each side is compared with those of its chain.
-pub fn repeated_side(codes: &[u64], index: &mut [u64]) -> usize
+// The number, counted from 1, of the first triangle that has a side of an earlier one; where none has, all sides hang in chains. Each side is given by a code, by
+// triangle and then ab, bc, ca; equal codes are the same ordered pair, and begin at one corner: each side is compared with those of its chain.
+pub fn repeated_side(codes: &[u64], index: &mut [u64]) -> Option<usize>
     requires { All (Within (length codes.now)) codes.now × (length codes.now ≤ 3072) × LinkedTo codes.now index.old 0 }
-    ensures { FirstRepeat codes.now result × (result ≡ 0 → LinkedTo codes.now index.new (length codes.now)) }
+    ensures { MatchOption result (FirstRepeat codes.now 0 × LinkedTo codes.now index.new (length codes.now)) (λ t. (0 < t) × FirstRepeat codes.now t) }
 {
-    let mut k: usize = 0;
-    'search: while k < codes.len() {
+    let mut repeated = None;
+    'search: for k in 0..codes.len() {
         let c = (codes[k] / 4096) as usize;
+        // A while: the chain is followed.
         let mut j = table_sides::head(index[c]);
         while 0 < j {
             if is_repeat(codes, j - 1, k) {
+                repeated = Some(k / 3 + 1);
                 break 'search;
             }
             j = table_sides::next(index[j - 1]);
         }
         link(index, c, k);
-        k += 1;
     }
-    if k < codes.len() {
-        return k / 3 + 1;
-    }
-    0
+    repeated
 }
 
 // The number of the triangle that a lent index names across side i; 0 where it names none.
@@ -76,7 +72,7 @@ fn named(lent: &[u8], i: usize) -> usize
     if lent.len() < 2 * i + 2 {
         return 0;
     }
-    lent[2 * i] as usize + 256 * lent[2 * i + 1] as usize
+    usize::from(u16::from_le_bytes([lent[2 * i], lent[2 * i + 1]]))
 }
 
 // The number of the side with this code in the triangle of a number; 0 where it has none, or there is no such triangle.
@@ -119,23 +115,18 @@ fn along_chains(index: &[u64], codes: &[u64], opposite: &mut [usize])
     requires { All (Within (length codes.now)) codes.now × (length codes.now ≤ 3072) × LinkedTo codes.now index.now (length codes.now) × (length opposite.old ≡ length codes.now) }
     ensures { Distinct codes.now → opposite.new ≡ turned_in codes.now }
 {
-    let mut i: usize = 0;
-    while i < codes.len() {
-        opposite[i] = table_sides::side_of(index, codes[i] % 4096 * 4096 + codes[i] / 4096);
-        i += 1;
+    for (i, code) in codes.iter().enumerate() {
+        opposite[i] = table_sides::side_of(index, *code % 4096 * 4096 + *code / 4096);
     }
 }
 
-// The same, looked for first where a lent index says.
+// The same, looked for first where a lent index says. (One function over both by a closure was tried: what the call along the chains asks of it was not proved.)
 fn by_index(index: &[u64], codes: &[u64], lent: &[u8], opposite: &mut [usize])
     requires { All (Within (length codes.now)) codes.now × (length codes.now ≤ 3072) × LinkedTo codes.now index.now (length codes.now) × (length opposite.old ≡ length codes.now) }
     ensures { Distinct codes.now → opposite.new ≡ turned_in codes.now }
 {
-    let mut i: usize = 0;
-    while i < codes.len() {
-        let code = codes[i] % 4096 * 4096 + codes[i] / 4096;
-        opposite[i] = reverse(index, codes, lent, i, code);
-        i += 1;
+    for (i, code) in codes.iter().enumerate() {
+        opposite[i] = reverse(index, codes, lent, i, *code % 4096 * 4096 + *code / 4096);
     }
 }
 

@@ -3,37 +3,56 @@
 use mathlib.Core.Path.{◌≡◌, refl, sym, ◌∙◌, ap, ap₂, subst}
 use mathlib.Core.List.{List, [], ◌∷◌}
 use Prim.Native.Nat.{ℕ, suc, ◌*◌, ◌≤◌, ◌<◌}
+use native.Mathlib.Decide.{dec_le}
+use Rattle.std.specs.Prelude.{min, max}
 use native.Mathlib.Omega.{arith}
 use lib.ListN.{length, get_or, drop, set, drop_of_length-le}
 use lib.Seq.{drop-cons}
+use Rattle.whole.specs.Numbers.{smaller, greater}
 use Rattle.whole.specs.Sums.{All}
+use Rattle.plane.specs.Points.{Point}
 use Rattle.plane.specs.declared.Corner.{Corner}
-use Rattle.plane.specs.Corners.{offset}
-use Rattle.plane.specs.Keys.{point, key_of, corner_of, point_at, points_at, Key, pairs}
+use Rattle.plane.specs.Corners.{offset, millimetres}
+use Rattle.plane.specs.Keys.{point, Held, key_of, points_at, Key, pairs}
 use Rattle.table.specs.Table.{least, greatest, Frame, frame_of, outline_of, frame_edges}
 use Rattle.table.specs.Sides.{triangles_of}
-use Rattle.table.proofs.Bounds.{key_of_lem, corners_points}
+use Rattle.table.proofs.Bounds.{millimetres_le, in_order, out_of_order, key_of_lem, corners_points}
 use Rattle.table_count.specs.Counting.{Edged}
 use Rattle.table_check.specs.declared.Frame.{Frame as FrameCode}
 use Rattle.table_check.specs.Framing.{FrameInRange, frame_held, wider}
 
+-- ---- the lower and the higher of two held numbers
+-- The order of held numbers is that of the coordinates.
+module _ {m n : ℕ} (x : Held m) (y : Held n) where
+  pub lower : {r : ℕ} → r ≡ min m n → Held r × (millimetres r ≡ smaller (millimetres m) (millimetres n))
+  lower {r} e = elim (dec_le m n) [
+    | yes h ↦ let q : r ≡ m = omega arith in (omega arith, ap millimetres q ∙ (in_order (millimetres m) (millimetres n) (millimetres_le m n h)).0)
+    | no h ↦ let q : r ≡ n = omega arith in (omega arith, ap millimetres q ∙ (out_of_order (millimetres m) (millimetres n) (millimetres_le n m (omega arith))).0)
+  ]
+
+  pub higher : {r : ℕ} → r ≡ max m n → Held r × (millimetres r ≡ greater (millimetres m) (millimetres n))
+  higher {r} e = elim (dec_le m n) [
+    | yes h ↦ let q : r ≡ n = omega arith in (omega arith, ap millimetres q ∙ (in_order (millimetres m) (millimetres n) (millimetres_le m n h)).1)
+    | no h ↦ let q : r ≡ m = omega arith in (omega arith, ap millimetres q ∙ (out_of_order (millimetres m) (millimetres n) (millimetres_le n m (omega arith))).1)
+  ]
+
 -- ---- the frame of the corners from a place on
 -- Of no corners it is 0 all round; at the last corner it is that corner's coordinates; one corner more widens it.
-pub frame_none : (keys : List ℕ) → length keys ≡ 0 → frame_held (record { left = offset; low = offset; right = offset; high = offset }) ≡ frame_of (points_at keys)
+pub frame_none : (l : List Point) → length l ≡ 0 → frame_held (record { left = offset; low = offset; right = offset; high = offset }) ≡ frame_of l
 unfolding frame_of
 frame_none [] h = refl
-frame_none (k ∷ keys) h = absurd (omega arith)
+frame_none (p ∷ l) h = absurd (omega arith)
 
-module _ (keys : List ℕ) where
-  pub frame_last : (i : ℕ) → length keys ≡ suc i → (c : Corner) → c ≡ corner_of (get_or keys i 0) → frame_held (record { left = c.x; low = c.y; right = c.x; high = c.y }) ≡ frame_of (points_at (drop i keys))
-  unfolding least greatest frame_of point_at
+module _ (l : List Point) (d : Point) where
+  pub frame_last : (i : ℕ) → length l ≡ suc i → (c : Corner) → point c ≡ get_or l i d → frame_held (record { left = c.x; low = c.y; right = c.x; high = c.y }) ≡ frame_of (drop i l)
+  unfolding least greatest frame_of
   frame_last i h c e =
-      let k : length keys ≤ suc i = omega arith in
-      ap (λ c. frame_held (record { left = c.x; low = c.y; right = c.x; high = c.y })) e ∙ sym (ap (λ l. frame_of (points_at l)) (drop-cons keys i 0 (omega arith) ∙ ap (λ l. get_or keys i 0 ∷ l) (drop_of_length-le keys k)))
+      let k : length l ≤ suc i = omega arith in
+      ap (λ p. record { left = p.x; low = p.y; right = p.x; high = p.y }) e ∙ sym (ap frame_of (drop-cons l i d (omega arith) ∙ ap (λ m. get_or l i d ∷ m) (drop_of_length-le l k)))
 
-  pub frame_more : (i j : ℕ) → suc j ≡ i → i < length keys → (c : Corner) → c ≡ corner_of (get_or keys j 0) → {f : Frame} → f ≡ frame_of (points_at (drop i keys)) → wider (point c) f ≡ frame_of (points_at (drop j keys))
-  unfolding least greatest frame_of point_at
-  frame_more i j e h c q r = ap₂ (λ c f. wider (point c) f) q r ∙ sym (ap (λ l. frame_of (points_at l)) (drop-cons keys j 0 (omega arith)) ∙ rw (← e, drop-cons keys (suc j) 0 (omega arith)) refl)
+  pub frame_more : (i j : ℕ) → suc j ≡ i → i < length l → (c : Corner) → point c ≡ get_or l j d → {f : Frame} → f ≡ frame_of (drop i l) → wider (point c) f ≡ frame_of (drop j l)
+  unfolding least greatest frame_of
+  frame_more i j e h c q r = ap₂ wider q r ∙ sym (ap frame_of (drop-cons l j d (omega arith)) ∙ rw (← e, drop-cons l (suc j) d (omega arith)) refl)
 
 -- ---- the edges of the frame
 -- Four places, all stored to.

@@ -1,28 +1,22 @@
 // The frame of a table, and the table rules in their order: 10 over all triangles, then 11, then 12. Where they pass, corners and sides can be looked up.
 #![tactic(auto)]
 
-ghost use Rattle.std.specs.Prelude.{◌≡◌, true, [], ℕ, ◌≤◌, length};
-ghost use Rattle.whole.specs.Numbers.{smaller, greater};
+ghost use Rattle.std.specs.Prelude.{◌≡◌, true, List, [], ℕ, ◌*◌, ◌≤◌, ◌<◌, length, get_or};
 ghost use Rattle.whole.specs.Sums.{All};
+ghost use Rattle.plane.specs.declared.Corner.{Corner};
+ghost use Rattle.plane.specs.Points.{Point};
 ghost use Rattle.plane.specs.Cuts.{all_pieces};
 ghost use Rattle.plane.specs.Boundaries.{agree, sides_of};
-ghost use Rattle.plane.specs.Corners.{millimetres};
-ghost use Rattle.plane.specs.Keys.{point, Held, InRange, Key, points_at, pairs};
+ghost use Rattle.plane.specs.Keys.{point, InRange, Key, points_at, pairs};
 ghost use Rattle.table.specs.Table.{corners, frame_of, outline_of, first_fault, flat};
-ghost use Rattle.table.specs.Sides.{triangles_of, item_of};
+ghost use Rattle.table.specs.Sides.{triangles_of, found};
 ghost use Rattle.table_count.specs.Counting.{Edged};
 ghost use Rattle.table_count.specs.Indexed.{Indexed};
 ghost use Rattle.table_check.specs.Framing.{FrameInRange, frame_held, wider};
 ghost use Rattle.table_check.specs.Checking.{Tableable, CheckOf};
 
+use lent::{Reason, Refusal};
 use plane::{Corner, OFFSET};
-
-// What the check of a table comes to: it passes, with so many different corners; or a refusal with its number and item.
-#[derive(Clone, Copy)]
-pub enum Check {
-    Passed(usize),
-    Refused(u32, u32),
-}
 
 // The frame's four bounds, each coordinate as it is held.
 #[derive(Clone, Copy)]
@@ -33,42 +27,17 @@ pub struct Frame {
     pub high: u32,
 }
 
-// The number, counted from 1, of the first triangle whose double area is not above 0; 0 where all are above. The corners are given by their numbers, three for each triangle.
-fn flat_triangle(keys: &[u64]) -> usize
+// The number, counted from 1, of the first triangle whose double area is not above 0. The corners are given by their numbers, three for each triangle.
+fn flat_triangle(keys: &[u64]) -> Option<usize>
     requires { All Key keys.now }
-    ensures { result ≡ item_of (first_fault flat [] (triangles_of keys.now)) }
+    ensures { found result ≡ first_fault flat [] (triangles_of keys.now) }
 {
-    let n = keys.len() / 3;
-    let mut t: usize = 0;
-    while t < n {
+    for t in 0..keys.len() / 3 {
         if plane_exact::area_at(keys, t) <= 0 {
-            return t + 1;
+            return Some(t + 1);
         }
-        t += 1;
     }
-    0
-}
-
-// The lower of two coordinates, as they are held.
-fn lower(m: u32, n: u32) -> u32
-    requires { Held m × Held n }
-    ensures { Held result × (millimetres result ≡ smaller (millimetres m) (millimetres n)) }
-{
-    if m <= n {
-        return m;
-    }
-    n
-}
-
-// The higher of two coordinates, as they are held.
-fn higher(m: u32, n: u32) -> u32
-    requires { Held m × Held n }
-    ensures { Held result × (millimetres result ≡ greater (millimetres m) (millimetres n)) }
-{
-    if m <= n {
-        return n;
-    }
-    m
+    None
 }
 
 // The frame with one corner more.
@@ -77,20 +46,21 @@ pub fn widened(f: Frame, c: Corner) -> Frame
     ensures { FrameInRange result × (frame_held result ≡ wider (point c) (frame_held f)) }
 {
     Frame {
-        left: lower(c.x, f.left),
-        low: lower(c.y, f.low),
-        right: higher(c.x, f.right),
-        high: higher(c.y, f.high),
+        left: c.x.min(f.left),
+        low: c.y.min(f.low),
+        right: c.x.max(f.right),
+        high: c.y.max(f.high),
     }
 }
 
-// The frame of the corners with these numbers.
-pub fn frame_of(keys: &[u64]) -> Frame
-    requires { All Key keys.now }
-    ensures { FrameInRange result × (frame_held result ≡ frame_of (points_at keys.now)) }
+// The frame of n corners, from the last to the first, each given by its place.
+pub fn frame_by<F: Fn(usize) -> Corner>(n: usize, corner: F) -> Frame
+    requires given { (i : ℕ) → i < n → F.pre corner i }
+    requires in_range { (i : ℕ) (c : Corner) → i < n → F.post corner i c → InRange c }
+    ensures in_range { FrameInRange result }
+    ensures is { (l : List Point) (p : Point) → length l ≡ n → ((i : ℕ) (c : Corner) → i < n → F.post corner i c → point c ≡ get_or l i p) → frame_held result ≡ frame_of l }
 {
-    let mut i: usize = keys.len();
-    if i == 0 {
+    if n == 0 {
         return Frame {
             left: OFFSET,
             low: OFFSET,
@@ -98,19 +68,25 @@ pub fn frame_of(keys: &[u64]) -> Frame
             high: OFFSET,
         };
     }
-    i -= 1;
-    let last = plane_exact::corner_at(keys[i]);
+    let last = corner(n - 1);
     let mut f = Frame {
         left: last.x,
         low: last.y,
         right: last.x,
         high: last.y,
     };
-    while 0 < i {
-        i -= 1;
-        f = widened(f, plane_exact::corner_at(keys[i]));
+    for i in (0..n - 1).rev() {
+        f = widened(f, corner(i));
     }
     f
+}
+
+// The frame of the corners with these numbers.
+pub fn frame_of(keys: &[u64]) -> Frame
+    requires { All Key keys.now }
+    ensures { FrameInRange result × (frame_held result ≡ frame_of (points_at keys.now)) }
+{
+    frame_by(keys.len(), |i| plane_exact::corner_at(keys[i]))
 }
 
 // The frame's four edges, anticlockwise: where each begins, and where it ends.
@@ -164,8 +140,8 @@ fn compared(
     table_labels::agree(opposite, counts, labels)
 }
 
-// The set of all of at most 64 triangles has the outline as its boundary, compared in short work lists.
-fn outlined_few(
+// The set of at most so many triangles has the outline as its boundary, compared in work lists for so many, and for their sides.
+fn outlined_in<const TRIANGLES: usize, const SIDES: usize>(
     keys: &[u64],
     from: &[u64],
     to: &[u64],
@@ -173,39 +149,12 @@ fn outlined_few(
     index: &[u64],
     opposite: &[usize],
 ) -> bool
-    requires { Indexed keys.now ordered.now index.now opposite.now × Edged from.now to.now × (length keys.now ≤ 192) }
+    requires { Indexed keys.now ordered.now index.now opposite.now × Edged from.now to.now × (length keys.now ≤ SIDES) × (SIDES ≡ 3 * TRIANGLES) × (TRIANGLES ≤ 1024) }
     ensures { result ≡ agree (sides_of (triangles_of keys.now)) (all_pieces (corners (triangles_of keys.now)) (pairs from.now to.now)) }
 {
     let n = keys.len();
-    let mut counts = [0u32; 192];
-    let labels = [true; 64];
-    compared(
-        keys,
-        from,
-        to,
-        ordered,
-        index,
-        opposite,
-        &mut counts[..n],
-        &labels[..n / 3],
-    )
-}
-
-// The set of all triangles has the outline as its boundary, compared in long work lists.
-fn outlined_many(
-    keys: &[u64],
-    from: &[u64],
-    to: &[u64],
-    ordered: &[u64],
-    index: &[u64],
-    opposite: &[usize],
-) -> bool
-    requires { Indexed keys.now ordered.now index.now opposite.now × Edged from.now to.now × (length keys.now ≤ 3072) }
-    ensures { result ≡ agree (sides_of (triangles_of keys.now)) (all_pieces (corners (triangles_of keys.now)) (pairs from.now to.now)) }
-{
-    let n = keys.len();
-    let mut counts = [0u32; 3072];
-    let labels = [true; 1024];
+    let mut counts = [0u32; SIDES];
+    let labels = [true; TRIANGLES];
     compared(
         keys,
         from,
@@ -231,13 +180,14 @@ fn outlined(
     ensures { result ≡ agree (sides_of (triangles_of keys.now)) (all_pieces (corners (triangles_of keys.now)) (pairs from.now to.now)) }
 {
     if keys.len() <= 192 {
-        return outlined_few(keys, from, to, ordered, index, opposite);
+        outlined_in::<64, 192>(keys, from, to, ordered, index, opposite)
+    } else {
+        outlined_in::<1024, 3072>(keys, from, to, ordered, index, opposite)
     }
-    outlined_many(keys, from, to, ordered, index, opposite)
 }
 
 // The table rules in their order: 10 over all triangles, then 11, then 12 against the outline, the edges from the corners of one list to those of the other. A lent
-// index may say where the side across a side is looked for first.
+// index may say where the side across a side is looked for first. Where they pass, the answer is the number of different corners.
 pub fn check_table(
     keys: &[u64],
     from: &[u64],
@@ -246,21 +196,28 @@ pub fn check_table(
     ordered: &mut [u64],
     index: &mut [u64],
     opposite: &mut [usize],
-) -> Check
+) -> Result<usize, Refusal>
     requires { ((n : ℕ) × Tableable keys.now n) × Edged from.now to.now × (length ordered.old ≡ length keys.now) × (length index.old ≡ length keys.now) × (length opposite.old ≡ length keys.now) }
     ensures { CheckOf (pairs from.now to.now) keys.now ordered.new index.new opposite.new result }
 {
-    let flat = flat_triangle(keys);
-    if flat != 0 {
-        return Check::Refused(10, flat as u32);
+    if let Some(t) = flat_triangle(keys) {
+        return Err(Refusal {
+            reason: Reason::Flat,
+            item: t as u32,
+        });
     }
     let n = whole_order::sort(keys, ordered);
-    let repeated = table_index::index_sides(keys, &ordered[..n], lent, index, opposite);
-    if repeated != 0 {
-        return Check::Refused(11, repeated as u32);
+    if let Some(t) = table_index::index_sides(keys, &ordered[..n], lent, index, opposite) {
+        return Err(Refusal {
+            reason: Reason::Repeated,
+            item: t as u32,
+        });
     }
     if !outlined(keys, from, to, &ordered[..n], index, opposite) {
-        return Check::Refused(12, 0);
+        return Err(Refusal {
+            reason: Reason::Outline,
+            item: 0,
+        });
     }
-    Check::Passed(n)
+    Ok(n)
 }

@@ -9,7 +9,6 @@ use Rattle.table.specs.Sides.{net_of}
 use Rattle.table.specs.Opposites.{found_at}
 use Rattle.whole_order.specs.Ascending.{Ascending, IsIn}
 use Rattle.table_sides.specs.Codes.{code_of}
-use Rattle.table_sides.specs.Numbered.{number_in}
 use Rattle.table_sides.specs.Chains.{code_in, clear_in, Last, Chained}
 
 -- ---- how corners and sides are looked up

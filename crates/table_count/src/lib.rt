@@ -16,17 +16,15 @@ pub fn next_stop(corners: &[u64], at: usize, u: u64, v: u64) -> usize
     requires { Ascending corners.now × All Key corners.now × Key u × Key v × (u < v) × (at ≤ length corners.now) }
     ensures { NextStop corners.now at u v result }
 {
-    let mut i = at;
-    while i < corners.len() {
+    for i in at..corners.len() {
         if v <= corners[i] {
             return corners.len();
         }
         if plane_exact::on_way(corners[i], u, v) {
             return i;
         }
-        i += 1;
     }
-    i
+    corners.len()
 }
 
 // The number, counted from 1, of u among the corners; 0 where it is none of them.
@@ -55,9 +53,5 @@ pub fn side_at(corners: &[u64], index: &[u64], a: usize, b: usize) -> usize
 pub fn clear(counts: &mut [u32])
     ensures { (length counts.new ≡ length counts.old) × All (λ n. n ≡ evenly) counts.new }
 {
-    let mut k: usize = 0;
-    while k < counts.len() {
-        counts[k] = table::EVEN;
-        k += 1;
-    }
+    counts.fill(table::EVEN);
 }

@@ -2,6 +2,7 @@
 use mathlib.Core.Path.{◌≡◌, refl, sym, ◌∙◌, ap, ap₂, subst}
 use mathlib.Core.Logic.{◌↔◌}
 use mathlib.Core.List.{List, []}
+use mathlib.Core.Option.{none, some}
 use Prim.Native.Nat.{ℕ, zero, suc, ◌*◌, ◌/◌, ◌%◌, ◌≤◌, ◌<◌}
 use native.Mathlib.Omega.{arith}
 use lib.Dec.{T}
@@ -15,7 +16,7 @@ use Rattle.table.specs.Table.{corners, RuleB, first_fault, repeats}
 use Rattle.table.specs.Sides.{triangles_of, tails_of, item_of, FirstRepeat}
 use Rattle.table.specs.Opposites.{found_at, opposites}
 use Rattle.table.proofs.Shares.{sides_pairs, length_tails, length_sides, side_at_lem, side_once}
-use Rattle.table.proofs.Faults.{first_repeat_is}
+use Rattle.table.proofs.Faults.{fault_is, fault_none, first_repeat_is}
 use Rattle.table.proofs.Bounds.{corners_points}
 use Rattle.whole_order.specs.Ascending.{IsIn, Distinct, place_of, ascending}
 use Rattle.whole_order.proofs.Ascending.{ascending_is, ascending_has, length_ascending, all_ascending, place_found}
@@ -152,8 +153,14 @@ module _ (keys : List ℕ) (n : ℕ) (three : length keys ≡ 3 * n) (few : leng
     }
 
   -- The first repeat among the codes is the first triangle with a side of an earlier one.
-  pub repeat_is : (r : ℕ) → FirstRepeat codes r → r ≡ item_of (first_fault repeats [] (triangles_of keys))
-  repeat_is r = first_repeat_is codes keys n many_codes three (codes_tell keys (tails_of keys) (tails_stand keys) few (length_tails keys n three)) r
+  repeat_item : (r : ℕ) → FirstRepeat codes r → r ≡ item_of (first_fault repeats [] (triangles_of keys))
+  repeat_item r = first_repeat_is codes keys n many_codes three (codes_tell keys (tails_of keys) (tails_stand keys) few (length_tails keys n three)) r
+
+  pub repeat_is : (t : ℕ) → 0 < t → FirstRepeat codes t → first_fault repeats [] (triangles_of keys) ≡ some t
+  repeat_is t h f = fault_is t (first_fault repeats [] (triangles_of keys)) h (repeat_item t f)
+
+  pub repeat_not : FirstRepeat codes 0 → first_fault repeats [] (triangles_of keys) ≡ none
+  repeat_not f = fault_none repeats [] (triangles_of keys) (repeat_item 0 f)
 
   -- Under rule B there is none.
   pub repeat_none : (r : ℕ) → FirstRepeat codes r → RuleB (triangles_of keys) → r ≡ 0

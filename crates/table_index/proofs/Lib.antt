@@ -1,4 +1,3 @@
 -- The laws of laying down and of looking up what was laid down.
-pub mod Stored
 pub mod Indexing
 pub mod Noting

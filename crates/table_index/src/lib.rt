@@ -6,7 +6,7 @@ ghost use Rattle.whole.specs.Tests.{Told};
 ghost use Rattle.whole.specs.Sums.{All};
 ghost use Rattle.plane.specs.Keys.{Key};
 ghost use Rattle.table.specs.Table.{RuleB, first_fault, repeats};
-ghost use Rattle.table.specs.Sides.{triangles_of, tails_of, item_of};
+ghost use Rattle.table.specs.Sides.{triangles_of, tails_of, found};
 ghost use Rattle.whole_order.specs.Ascending.{Ascending, ascending};
 ghost use Rattle.table_sides.specs.Codes.{codes_of};
 ghost use Rattle.table_sides.specs.Chains.{clear_in};
@@ -20,15 +20,14 @@ fn codes(corners: &[u64], keys: &[u64], codes: &mut [u64])
     requires { Ascending corners.now × (length corners.now ≤ 4096) × ((n : ℕ) × (length keys.now ≡ 3 * n)) × (length codes.old ≡ length keys.now) }
     ensures { codes.new ≡ codes_of corners.now keys.now (tails_of keys.now) }
 {
-    let mut i: usize = 0;
-    while i < keys.len() {
+    for t in 0..keys.len() / 3 {
+        let i = 3 * t;
         let a = whole_order::place(corners, keys[i]);
         let b = whole_order::place(corners, keys[i + 1]);
         let c = whole_order::place(corners, keys[i + 2]);
         codes[i] = table_sides::code(a, b);
         codes[i + 1] = table_sides::code(b, c);
         codes[i + 2] = table_sides::code(c, a);
-        i += 3;
     }
 }
 
@@ -62,10 +61,8 @@ fn notes(corners: &[u64], codes: &[u64], opposite: &[usize], index: &mut [u64])
         × ((i : ℕ) → i < length codes.now → clear_in (get_or index.old i 0) ≡ 0) }
     ensures { NotedTo corners.now codes.now index.old index.new (length codes.now) }
 {
-    let mut k: usize = 0;
-    while k < codes.len() {
-        index[k] += note(corners, codes[k], opposite[k]);
-        k += 1;
+    for (k, code) in codes.iter().enumerate() {
+        index[k] += note(corners, *code, opposite[k]);
     }
 }
 
@@ -77,71 +74,54 @@ fn lay_sides(
     codes: &mut [u64],
     index: &mut [u64],
     opposite: &mut [usize],
-) -> usize
+) -> Option<usize>
     requires { All Key keys.now × ((n : ℕ) × (length keys.now ≡ 3 * n)) × (length keys.now ≤ 3072) × (ordered.now ≡ ascending keys.now)
         × (length codes.old ≡ length keys.now) × (length index.old ≡ length keys.now) × (length opposite.old ≡ length keys.now) }
-    ensures { (result ≡ item_of (first_fault repeats [] (triangles_of keys.now))) × (RuleB (triangles_of keys.now) → Indexed keys.now ordered.now index.new opposite.new) }
+    ensures { (found result ≡ first_fault repeats [] (triangles_of keys.now)) × (RuleB (triangles_of keys.now) → Indexed keys.now ordered.now index.new opposite.new) }
 {
     self::codes(ordered, keys, codes);
     table_chains::unlinked(codes, index);
-    let r = table_chains::repeated_side(codes, index);
-    if r != 0 {
-        return r;
+    if let Some(t) = table_chains::repeated_side(codes, index) {
+        return Some(t);
     }
     table_chains::opposites(index, codes, lent, opposite);
     notes(ordered, codes, opposite, index);
-    0
+    None
 }
 
-// Makes at most 192 sides ready to be looked up, their codes laid down in a short work list.
-fn index_few(
+// Makes at most so many sides ready to be looked up, their codes laid down in a work list of that length.
+fn index_in<const SIDES: usize>(
     keys: &[u64],
     ordered: &[u64],
     lent: &[u8],
     index: &mut [u64],
     opposite: &mut [usize],
-) -> usize
-    requires { All Key keys.now × ((n : ℕ) × (length keys.now ≡ 3 * n)) × (length keys.now ≤ 192) × (ordered.now ≡ ascending keys.now)
-        × (length index.old ≡ length keys.now) × (length opposite.old ≡ length keys.now) }
-    ensures { (result ≡ item_of (first_fault repeats [] (triangles_of keys.now))) × (RuleB (triangles_of keys.now) → Indexed keys.now ordered.now index.new opposite.new) }
+) -> Option<usize>
+    requires { All Key keys.now × ((n : ℕ) × (length keys.now ≡ 3 * n)) × (length keys.now ≤ SIDES) × (ordered.now ≡ ascending keys.now)
+        × (SIDES ≤ 3072) × (length index.old ≡ length keys.now) × (length opposite.old ≡ length keys.now) }
+    ensures { (found result ≡ first_fault repeats [] (triangles_of keys.now)) × (RuleB (triangles_of keys.now) → Indexed keys.now ordered.now index.new opposite.new) }
 {
     let n = keys.len();
-    let mut codes = [0u64; 192];
-    lay_sides(keys, ordered, lent, &mut codes[..n], index, opposite)
-}
-
-// Makes the sides of any table ready to be looked up, their codes laid down in a long work list.
-fn index_many(
-    keys: &[u64],
-    ordered: &[u64],
-    lent: &[u8],
-    index: &mut [u64],
-    opposite: &mut [usize],
-) -> usize
-    requires { All Key keys.now × ((n : ℕ) × (length keys.now ≡ 3 * n)) × (length keys.now ≤ 3072) × (ordered.now ≡ ascending keys.now)
-        × (length index.old ≡ length keys.now) × (length opposite.old ≡ length keys.now) }
-    ensures { (result ≡ item_of (first_fault repeats [] (triangles_of keys.now))) × (RuleB (triangles_of keys.now) → Indexed keys.now ordered.now index.new opposite.new) }
-{
-    let n = keys.len();
-    let mut codes = [0u64; 3072];
+    let mut codes = [0u64; SIDES];
     lay_sides(keys, ordered, lent, &mut codes[..n], index, opposite)
 }
 
 // Makes the table's sides ready to be looked up, and lays down the side across each side, which a lent index may say where to look for. Answers the number of the
-// first triangle with a side of an earlier one, 0 where there is none.
+// first triangle with a side of an earlier one, counted from 1.
 pub fn index_sides(
     keys: &[u64],
     ordered: &[u64],
     lent: &[u8],
     index: &mut [u64],
     opposite: &mut [usize],
-) -> usize
+) -> Option<usize>
     requires { All Key keys.now × ((n : ℕ) × (length keys.now ≡ 3 * n)) × (length keys.now ≤ 3072) × (ordered.now ≡ ascending keys.now)
         × (length index.old ≡ length keys.now) × (length opposite.old ≡ length keys.now) }
-    ensures { (result ≡ item_of (first_fault repeats [] (triangles_of keys.now))) × (RuleB (triangles_of keys.now) → Indexed keys.now ordered.now index.new opposite.new) }
+    ensures { (found result ≡ first_fault repeats [] (triangles_of keys.now)) × (RuleB (triangles_of keys.now) → Indexed keys.now ordered.now index.new opposite.new) }
 {
     if keys.len() <= 192 {
-        return index_few(keys, ordered, lent, index, opposite);
+        index_in::<192>(keys, ordered, lent, index, opposite)
+    } else {
+        index_in::<3072>(keys, ordered, lent, index, opposite)
     }
-    index_many(keys, ordered, lent, index, opposite)
 }

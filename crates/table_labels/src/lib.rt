@@ -7,16 +7,6 @@ ghost use Rattle.whole.specs.Sums.{All, bit};
 ghost use Rattle.table.specs.Sides.{across, SharesAt, Shares};
 ghost use Rattle.table_labels.specs.Labels.{Sided};
 
-// 1 for a label that is set, else 0.
-fn one(label: bool) -> u32
-    ensures { (result ≡ bit label) × (result ≤ 1) }
-{
-    if label {
-        return 1;
-    }
-    0
-}
-
 // 1 where the triangle across, by the number of the reverse side, is labelled.
 fn beyond(o: usize, labels: &[bool]) -> u32
     requires { (j : ℕ) → o ≡ suc j → j / 3 < length labels.now }
@@ -25,7 +15,7 @@ fn beyond(o: usize, labels: &[bool]) -> u32
     if o == 0 {
         return 0;
     }
-    one(labels[(o - 1) / 3])
+    u32::from(labels[(o - 1) / 3])
 }
 
 // The count at side k is that of the boundary of the labelled set.
@@ -33,11 +23,8 @@ fn agrees(opposite: &[usize], counts: &[u32], labels: &[bool], k: usize) -> bool
     requires { Sided opposite.now counts.now (length labels.now) × (k < length opposite.now) }
     ensures { Told result (SharesAt opposite.now counts.now labels.now k) (SharesAt opposite.now counts.now labels.now k → ⊥) }
 {
-    let own = table::EVEN + one(labels[k / 3]);
-    if counts[k] + beyond(opposite[k], labels) != own {
-        return false;
-    }
-    true
+    let own = table::EVEN + u32::from(labels[k / 3]);
+    counts[k] + beyond(opposite[k], labels) == own
 }
 
 // The counts at all sides are those of the boundary of the labelled set.
@@ -45,12 +32,10 @@ pub fn agree(opposite: &[usize], counts: &[u32], labels: &[bool]) -> bool
     requires { Sided opposite.now counts.now (length labels.now) }
     ensures { Told result (Shares opposite.now counts.now labels.now) (Shares opposite.now counts.now labels.now → ⊥) }
 {
-    let mut k: usize = 0;
-    while k < counts.len() {
+    for k in 0..counts.len() {
         if !agrees(opposite, counts, labels, k) {
             return false;
         }
-        k += 1;
     }
     true
 }
@@ -61,12 +46,10 @@ pub fn agree_at(opposite: &[usize], counts: &[u32], labels: &[bool], sides: &[us
     ensures { Told result (All (SharesAt opposite.now counts.now labels.now) sides.now)
         (All (SharesAt opposite.now counts.now labels.now) sides.now → ⊥) }
 {
-    let mut i: usize = 0;
-    while i < sides.len() {
-        if !agrees(opposite, counts, labels, sides[i]) {
+    for k in sides {
+        if !agrees(opposite, counts, labels, *k) {
             return false;
         }
-        i += 1;
     }
     true
 }

@@ -1,7 +1,7 @@
 -- Marking one edge more. The idea: one more at a corner's place, and none elsewhere. Assumes nothing.
 use mathlib.Core.Path.{◌≡◌, refl, sym, ◌∙◌, ap, subst}
 use mathlib.Core.Logic.{◌⊎◌, inl, inr}
-use mathlib.Core.Bool.{Bool, true, false, cond, ◌&&◌}
+use mathlib.Core.Bool.{Bool, true, false, ◌&&◌}
 use mathlib.Core.List.{List}
 use Prim.Native.Nat.{ℕ, suc, ◌+◌, ◌≤◌, ◌<◌}
 use native.Mathlib.Omega.{arith}
@@ -91,31 +91,6 @@ module _ (corners : List ℕ) (a b : ℕ) (from to : List ℕ) where
   -- ---- what is done
   pub done_first : (done : List Bool) (i : ℕ) → ((k : ℕ) → k < i → T (lie a b (get_or from k 0) (get_or to k 0)) → ⊥) → DoneBy a b from to i done done
   done_first done i u = record { number = refl; on = λ k h t. absurd (u k h t); kept = λ k e. e; others = λ k e. inl e; later = λ k h. refl }
-
-  pub done_more : (x y z : List Bool) (j : ℕ) → j < length y → DoneBy a b from to j x y → z ≡ cond (lie a b (get_or from j 0) (get_or to j 0)) (set y j true) y → DoneBy a b from to (j + 1) x z
-  done_more x y z j h d e = go (lie a b (get_or from j 0) (get_or to j 0)) refl e
-    where
-      go : (o : Bool) → lie a b (get_or from j 0) (get_or to j 0) ≡ o → z ≡ cond o (set y j true) y → DoneBy a b from to (j + 1) x z
-      go false off r = subst (DoneBy a b from to (j + 1) x) (sym r) (record { number = d.number; on = λ k l t. before k l t (ℕ_discrete k j); kept = d.kept; others = d.others; later = λ k l. d.later k (omega arith) })
-        where
-          before : (k : ℕ) → k < j + 1 → T (lie a b (get_or from k 0) (get_or to k 0)) → Dec (k ≡ j) → get_or y k false ≡ true
-          before k l t (yes q) = absurd (subst T (ap (λ k. lie a b (get_or from k 0) (get_or to k 0)) q ∙ off) t)
-          before k l t (no n) = d.on k (omega arith) t
-      go true on r = subst (DoneBy a b from to (j + 1) x) (sym r) (record {
-        number = length-set y j true ∙ d.number;
-        on = λ k l t. here k (ℕ_discrete k j) (λ n. d.on k (omega arith) t);
-        kept = λ k e. here k (ℕ_discrete k j) (λ n. d.kept k e);
-        others = λ k e. other k e (ℕ_discrete k j);
-        later = λ k l. get_or-set_other y j k true false (λ q. omega arith) ∙ d.later k (omega arith);
-      })
-        where
-          here : (k : ℕ) → Dec (k ≡ j) → ((k ≡ j → ⊥) → get_or y k false ≡ true) → get_or (set y j true) k false ≡ true
-          here k (yes q) f = rw q (get_or-set_same y j true false h)
-          here k (no n) f = get_or-set_other y j k true false n ∙ f n
-
-          other : (k : ℕ) → get_or (set y j true) k false ≡ true → Dec (k ≡ j) → (get_or x k false ≡ true) ⊎ T (lie a b (get_or from k 0) (get_or to k 0))
-          other k e (yes q) = inr (subst T (sym (ap (λ k. lie a b (get_or from k 0) (get_or to k 0)) q ∙ on)) tt)
-          other k e (no n) = d.others k (sym (get_or-set_other y j k true false n) ∙ e)
 
   -- ---- the span
   abbrev Within : ℕ → ℕ → ℕ → Type 0

@@ -25,10 +25,7 @@ fn both_on(a: u64, b: u64, p: u64, q: u64) -> bool
     requires { Key a × Key b × Key p × Key q }
     ensures { result ≡ lie a b p q }
 {
-    if on_line(a, b, p) {
-        return on_line(a, b, q);
-    }
-    false
+    on_line(a, b, p) && on_line(a, b, q)
 }
 
 // One more at the corner u; the corner's place.
@@ -49,32 +46,14 @@ pub struct Span {
     pub stop: usize,
 }
 
-fn least(x: usize, y: usize) -> usize
-    ensures { (result ≤ x) × (result ≤ y) }
-{
-    if x < y {
-        return x;
-    }
-    y
-}
-
-fn greatest(x: usize, y: usize) -> usize
-    ensures { (x ≤ result) × (y ≤ result) × ((n : ℕ) → x ≤ n → y ≤ n → result ≤ n) }
-{
-    if x < y {
-        return y;
-    }
-    x
-}
-
 // A span with two places more.
 fn widened(span: Span, x: usize, y: usize) -> Span
     requires { (x < 3072) × (y < 3072) }
     ensures { Wider span.low span.stop x y result.low result.stop }
 {
     Span {
-        low: least(span.low, least(x, y)),
-        stop: greatest(span.stop, greatest(x + 1, y + 1)),
+        low: span.low.min(x).min(y),
+        stop: span.stop.max(x + 1).max(y + 1),
     }
 }
 
@@ -136,10 +115,8 @@ pub fn mark(
         low: corners.len(),
         stop: 0,
     };
-    let mut j = i;
-    while j < from.len() {
+    for j in i..from.len() {
         span = mark_edge(corners, from, to, a, b, j, begins, ends, done, span);
-        j += 1;
     }
     span
 }
@@ -149,9 +126,7 @@ pub fn wipe(marks: &mut [u32], low: usize, stop: usize)
     requires { (stop ≤ length marks.old) × ((k : ℕ) → k < length marks.old → (k < low) ⊎ (stop ≤ k) → get_or marks.old k 0 ≡ 0) }
     ensures { (length marks.new ≡ length marks.old) × All (λ n. n ≡ 0) marks.new }
 {
-    let mut k = low;
-    while k < stop {
-        marks[k] = 0;
-        k += 1;
+    if low < stop {
+        marks[low..stop].fill(0);
     }
 }

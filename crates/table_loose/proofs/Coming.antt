@@ -84,10 +84,6 @@ across_way u v e = go (ℕ_discrete u v)
     go (yes q) = rw (eq-eqb v u (sym q), eq-eqb u v q)
     go (no n) = rw (ne_eqb v u (λ q. n (sym q)), ne_eqb u v n) (ap (λ b. b + 0) (bits (pair v u) e (pair u v) (flip e) (ap flip) (ap flip)))
 
--- Nothing, where the pair has no length.
-pub came_none : (u v : ℕ) (before : List Edge) → u ≡ v → Came (way u v) before before
-came_none u v before q = rw (eq-eqb u v q) (record { boundary = λ e. refl; from_there = λ e. omega arith; apart = λ h. h })
-
 module _ (u v : ℕ) (n : u ≡ v → ⊥) (before after : List Edge) where
   own : bit (same_edge (pair u v) (pair v u)) ≡ 0
   own = bit_no (same_edge (pair u v) (pair v u)) (λ t. n (point_at-injective u v (ap (λ z. z.from) (same_edge-eq (pair u v) (pair v u) t))))

@@ -1,7 +1,7 @@
 // Pairs of corners that come one by one and cancel: a pair is open until its reverse comes.
 #![tactic(auto)]
 
-ghost use Rattle.std.specs.Prelude.{◌≡◌, ℕ, ◌+◌, ◌≤◌, ◌<◌, length, get_or, take};
+ghost use Rattle.std.specs.Prelude.{◌≡◌, MatchOption, ℕ, ◌+◌, ◌≤◌, ◌<◌, length, get_or, take};
 ghost use Rattle.whole.specs.Tests.{Told};
 ghost use Rattle.plane.specs.Keys.{pairs};
 ghost use Rattle.table_loose.specs.Loose.{way, Came, WithoutTo, WithTo};
@@ -11,36 +11,33 @@ fn is_without(us: &[u64], u: u64) -> bool
     ensures { Told result (WithoutTo us.now u (length us.now)) (WithTo us.now u (length us.now)) }
 {
     let mut without = true;
-    let mut k: usize = 0;
-    while k < us.len() {
-        if us[k] == u {
+    for x in us {
+        if *x == u {
             without = false;
         }
-        k += 1;
     }
     without
 }
 
-// The place of the pair (u, v) among the first n pairs of two lists; n where it is none of them. The latest are looked at first, and 32 without u are passed over.
-fn place_of(us: &[u64], vs: &[u64], n: usize, u: u64, v: u64) -> usize
+// The place of the pair (u, v) among the first n pairs of two lists. The latest are looked at first, and 32 without u are passed over.
+fn place_of(us: &[u64], vs: &[u64], n: usize, u: u64, v: u64) -> Option<usize>
     requires { (n ≤ length us.now) × (n ≤ length vs.now) }
-    ensures { (result ≤ n) × (result < n → (get_or us.now result 0 ≡ u) × (get_or vs.now result 0 ≡ v))
-        × (result ≡ n → (j : ℕ) → j < n → get_or us.now j 0 ≡ u → get_or vs.now j 0 ≡ v → ⊥) }
+    ensures { MatchOption result ((j : ℕ) → j < n → get_or us.now j 0 ≡ u → get_or vs.now j 0 ≡ v → ⊥)
+        (λ k. (k < n) × (get_or us.now k 0 ≡ u) × (get_or vs.now k 0 ≡ v)) }
 {
     let mut k = n;
+    // A while: it goes down by 32 or by 1.
     while 0 < k {
         if k % 32 == 0 && is_without(&us[k - 32..k], u) {
             k -= 32;
         } else {
             k -= 1;
-            if us[k] == u {
-                if vs[k] == v {
-                    return k;
-                }
+            if us[k] == u && vs[k] == v {
+                return Some(k);
             }
         }
     }
-    n
+    None
 }
 
 // The pair (u, v) comes to the first n pairs of two lists, which are open: where its reverse is one of them that is taken out, and the last one moves into its
@@ -53,13 +50,16 @@ pub fn come(us: &mut [u64], vs: &mut [u64], n: usize, u: u64, v: u64) -> usize
     if u == v {
         return n;
     }
-    let k = place_of(us, vs, n, v, u);
-    if k == n {
-        us[n] = u;
-        vs[n] = v;
-        return n + 1;
+    match place_of(us, vs, n, v, u) {
+        None => {
+            us[n] = u;
+            vs[n] = v;
+            n + 1
+        }
+        Some(k) => {
+            us[k] = us[n - 1];
+            vs[k] = vs[n - 1];
+            n - 1
+        }
     }
-    us[k] = us[n - 1];
-    vs[k] = vs[n - 1];
-    n - 1
 }

@@ -3,7 +3,7 @@ use mathlib.Core.Path.{◌≡◌, refl, sym, ◌∙◌, ap, ap₂, subst}
 use mathlib.Core.Logic.{◌↔◌}
 use mathlib.Core.Bool.{Bool, true, false, ◌&&◌}
 use mathlib.Core.List.{List, [], ◌∷◌, ◌++◌, flat_map}
-use Prim.Native.Nat.{ℕ, zero, suc, ◌+◌, ◌*◌, ◌/◌, ◌%◌, ◌≤◌, ◌<◌}
+use Prim.Native.Nat.{ℕ, ◌+◌, ◌*◌, ◌/◌, ◌%◌, ◌≤◌, ◌<◌}
 use native.Mathlib.Omega.{arith}
 use borrow.Author.Tests.{eq-eqb, ne_eqb}
 use lib.Dec.{T, eqb, eqb→eq}
@@ -65,10 +65,17 @@ two_and_rest : (a b n : ℕ) (l m : List ℕ) → same_bytes (a ∷ b ∷ l) (u1
 unfolding bytes
 two_and_rest a b n l m = and_both_ways (eqb a (n % 256)) (eqb b (n / 256 % 256)) (same_bytes l m)
 
--- ---- an index and the table's own, from a place on
-pub two_each : (opposite : List ℕ) → length (held_index opposite) ≡ 2 * length opposite
-two_each = all_length 2 (λ o. u16 (triangle_of o)) (λ o. length_bytes 2 (triangle_of o))
+-- ---- the numbers of the index, two bytes each
+abbrev pub number : ℕ → List ℕ
+number o = u16 (triangle_of o)
 
+pub two : (o : ℕ) → length (number o) ≡ 2
+two o = length_bytes 2 (triangle_of o)
+
+pub two_each : (opposite : List ℕ) → length (held_index opposite) ≡ 2 * length opposite
+two_each = all_length 2 number two
+
+-- ---- an index and the table's own, from a place on
 abbrev pub from_on : List ℕ → List ℕ → ℕ → Bool
 from_on index opposite i = same_bytes (drop (2 * i) index) (held_index (drop i opposite))
 
@@ -81,6 +88,13 @@ one_further index opposite i e h =
     let c = drop_next opposite i (i + 1) (omega arith) h in
     ap₂ (λ l m. same_bytes l (held_index m)) (a ∙ ap (λ l. get_or index (2 * i) 0 ∷ l) b) c
     ∙ two_and_rest (get_or index (2 * i) 0) (get_or index (2 * i + 1) 0) (triangle_of (get_or opposite i 0)) (drop (2 * (i + 1)) index) (held_index (drop (i + 1) opposite))
+
+-- The same, by the answer of a comparison with the number n.
+pub further : (index opposite : List ℕ) (i n : ℕ) {b : Bool} → length index ≡ 2 * length opposite → i < length opposite → n ≡ triangle_of (get_or opposite i 0)
+    → b ≡ same_bytes (get_or index (2 * i) 0 ∷ get_or index (2 * i + 1) 0 ∷ []) (u16 n) → from_on index opposite i ≡ (b && from_on index opposite (i + 1))
+further index opposite i n e h q p =
+    one_further index opposite i e h
+    ∙ ap (λ b. b && from_on index opposite (i + 1)) (ap (λ n. same_bytes (get_or index (2 * i) 0 ∷ get_or index (2 * i + 1) 0 ∷ []) (u16 n)) (sym q) ∙ sym p)
 
 -- At the end nothing is left to compare.
 pub at_end : (index opposite : List ℕ) (i : ℕ) → length index ≡ 2 * length opposite → length opposite ≤ i → from_on index opposite i ≡ true

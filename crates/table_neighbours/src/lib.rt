@@ -3,8 +3,11 @@
 
 ghost use Rattle.std.specs.Prelude.{◌≡◌, true, cond, [], ◌∷◌, ◌++◌, ◌+◌, ◌*◌, ◌≤◌, ◌<◌, length, get_or, drop};
 ghost use Rattle.lent.specs.Answered.{Answered};
+ghost use Rattle.lent.specs.Told.{number_of};
 ghost use Rattle.table_neighbours.specs.Neighbours.{u16, same_bytes};
 ghost use Rattle.table_neighbours.specs.Held.{triangle_of, held_index, whole_outcome};
+
+use lent::{Reason, Refusal};
 
 // The number of the triangle that has the side of a number; both are counted from 1, and 0 stands for none.
 fn triangle_of(side: usize) -> u64
@@ -21,24 +24,25 @@ fn lay(opposite: &[usize], out: &mut [u8])
     requires { (length opposite.now ≤ 3072) × (2 * length opposite.now ≤ length out.old) }
     ensures { out.new ≡ held_index opposite.now ++ drop (2 * length opposite.now) out.old }
 {
-    let mut i: usize = 0;
-    while i < opposite.len() {
-        lent_little::put(out, 2 * i, triangle_of(opposite[i]), 2);
-        i += 1;
+    for (i, side) in opposite.iter().enumerate() {
+        lent_little::put(out, 2 * i, triangle_of(*side), 2);
     }
 }
 
-// The index of a table as an answer; the item is the number of bytes.
-pub fn write(opposite: &[usize], out: &mut [u8]) -> u64
+// The index of a table, written over the front of the lent bytes; the item is the number of bytes.
+pub fn write(opposite: &[usize], out: &mut [u8]) -> Result<u32, Refusal>
     requires { length opposite.now ≤ 3072 }
-    ensures { Answered (whole_outcome (held_index opposite.now)) out.old result out.new }
+    ensures { Answered (whole_outcome (held_index opposite.now)) out.old (number_of result) out.new }
 {
     let n = 2 * opposite.len();
     if out.len() < n {
-        return 40;
+        return Err(Refusal {
+            reason: Reason::Room,
+            item: 0,
+        });
     }
     lay(opposite, out);
-    n as u64 * 256
+    Ok(n as u32)
 }
 
 // The bytes at a place are those of the number.
@@ -60,12 +64,10 @@ pub fn is_own(opposite: &[usize], index: &[u8]) -> bool
     if index.len() != 2 * opposite.len() {
         return false;
     }
-    let mut i: usize = 0;
-    while i < opposite.len() {
-        if !stands(index, 2 * i, triangle_of(opposite[i])) {
+    for (i, side) in opposite.iter().enumerate() {
+        if !stands(index, 2 * i, triangle_of(*side)) {
             return false;
         }
-        i += 1;
     }
     true
 }

@@ -28,7 +28,7 @@ use Rattle.table_lines.proofs.Follows.{total_same, total_none, total_at, follows
 use Rattle.table_count.specs.Counting.{Looked, side_of, pieces_of, Tallied, Settled}
 use Rattle.table_count.proofs.Counted.{tallied_from}
 use Rattle.table_count.proofs.Pieces.{settles_flip}
-use Rattle.table_runs.specs.Runs.{Right, Handled, Open, Kept, Met, Ready, Walked, Lined, EdgeHandled, ByLines, Onward, Through}
+use Rattle.table_runs.specs.Runs.{Right, Handled, Open, Met, Ready, Walked, Lined, EdgeHandled, ByLines, Onward, Through}
 use Rattle.table_runs.proofs.Runs.{handled_kept, met_even}
 
 -- ---- one corner more
@@ -150,14 +150,7 @@ module _ (sides : List Edge) (corners from to counts : List ℕ) (still : Open s
   all_tallied = (tallied_from sides L counts still.number right, all_map (Handled sides L counts) (λ e. Among same_edge e sides ⊎ Among same_edge (flip e) sides ⊎ (boundary L e ≡ pos 0)) (λ e h. h.settled) L each)
 
 -- ---- edge after edge
-edge_kept : (sides : List Edge) (corners from to before after : List ℕ) (j : ℕ) → Kept sides (pieces_of corners from to) before after → EdgeHandled sides corners from to before j → EdgeHandled sides corners from to after j
-edge_kept sides corners from to before after j k h e m = handled_kept sides (pieces_of corners from to) before after e k (h e m)
-
 module _ (sides : List Edge) (corners from to : List ℕ) where
-  -- An edge that is done.
-  pub onward_done : (counts : List ℕ) (done : List Bool) → Open sides (pieces_of corners from to) counts → Onward sides corners from to counts counts done done
-  onward_done counts done o = record { still = o; kept = λ k l r. r; others = λ j h e. inl e }
-
   -- The line of an edge.
   pub onward_line : Cornered corners from to → (a b : ℕ) → (a ≡ b → ⊥) → (before after : List ℕ) (done done' : List Bool) → DoneBy a b from to (length from) done done' → Lined sides corners from to a b before after
       → Onward sides corners from to before after done done'
@@ -171,25 +164,10 @@ module _ (sides : List Edge) (corners from to : List ℕ) where
       go j k (inl e) = inl e
       go j k (inr t) = inr (edge j k t)
 
-  -- One line more.
-  pub through_more : (before after : List ℕ) (done done' : List Bool) → Through sides corners from to before done → Onward sides corners from to before after done done' → Through sides corners from to after done'
-  through_more before after done done' t o = record { still = o.still; noted = λ j l e. late j l (o.others j l e) }
-    where
-      late : (j : ℕ) → j < length from → (get_or done j false ≡ true) ⊎ EdgeHandled sides corners from to after j → EdgeHandled sides corners from to after j
-      late j l (inl e) = edge_kept sides corners from to before after j o.kept (t.noted j l e)
-      late j l (inr w) = w
-
 none_true : (done : List Bool) (j : ℕ) → All (λ d. d ≡ false) done → get_or done j false ≡ true → ⊥
 none_true [] j h e = subst T (sym e) tt
 none_true (d ∷ l) zero h e = subst T (sym e ∙ h.0) tt
 none_true (d ∷ l) (suc j) h e = none_true l j h.1 e
-
--- At first.
-pub through_none : (sides : List Edge) (corners from to counts : List ℕ) (done : List Bool) → length counts ≡ length sides → All (λ n. n ≡ evenly) counts → All (λ d. d ≡ false) done → Through sides corners from to counts done
-through_none sides corners from to counts done n z f = record {
-  still = record { number = n; each = λ k h. inr (all_at (λ n. n ≡ evenly) 0 counts k z (omega arith)) };
-  noted = λ j h e. absurd (none_true done j f e);
-}
 
 -- In the end.
 pub through_all : (sides : List Edge) (corners from to counts : List ℕ) (done : List Bool) (i : ℕ) → length from ≤ i → ByLines from to i done → Through sides corners from to counts done
@@ -233,13 +211,6 @@ module _ (corners from to : List ℕ) (cornered : Cornered corners from to) (i :
 
       go : get_or done k false ≡ true → ⊥
       go d = subst T (sym (lines.whole k i l h d (back_line (get_or from i 0) (get_or to i 0) (get_or from k 0) (get_or to k 0) (cornered.long i h) (cornered.long k l) t)) ∙ n) tt
-
-  pub lines_done : get_or done i false ≡ true → ByLines from to (i + 1) done
-  lines_done d = record { first = λ j l. go j l (ℕ_discrete j i); whole = lines.whole }
-    where
-      go : (j : ℕ) → j < i + 1 → Dec (j ≡ i) → get_or done j false ≡ true
-      go j l (yes q) = rw q d
-      go j l (no n) = lines.first j (omega arith)
 
   pub lines_more : (done' : List Bool) → DoneBy (get_or from i 0) (get_or to i 0) from to (length from) done done' → ByLines from to (i + 1) done'
   lines_more done' d = record { first = λ j l. go j l (ℕ_discrete j i); whole = λ j k l m e t. late j k l m t (d.others j e) }

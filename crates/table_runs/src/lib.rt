@@ -62,10 +62,7 @@ fn meet(
 fn quiet(more: u32, less: u32, begin: u32, end: u32) -> bool
     ensures { result ≡ true → (more ≡ less) × (begin ≡ end) }
 {
-    if more == less {
-        return begin == end;
-    }
-    false
+    more == less && begin == end
 }
 
 // Counts the pairs of corners that follow one another on the line of a and b, from what begins and what ends at each corner.
@@ -92,19 +89,15 @@ fn walk(
     let mut more: u32 = 0;
     let mut less: u32 = 0;
     let mut last: usize = 0;
-    let mut k = low;
-    while k < stop {
-        if !quiet(more, less, begins[k], ends[k]) {
-            if table_lines::on_line(a, b, corners[k]) {
-                if !meet(corners, index, from, to, a, b, k, last, more, less, counts) {
-                    return false;
-                }
-                last = k;
+    for k in low..stop {
+        if !quiet(more, less, begins[k], ends[k]) && table_lines::on_line(a, b, corners[k]) {
+            if !meet(corners, index, from, to, a, b, k, last, more, less, counts) {
+                return false;
             }
+            last = k;
         }
         more += begins[k];
         less += ends[k];
-        k += 1;
     }
     true
 }
@@ -165,12 +158,10 @@ pub fn tally(
         (Tallied sides (pieces_of corners.now from.now to.now) counts.new × Settled sides (pieces_of corners.now from.now to.now) (pieces_of corners.now from.now to.now))
         (Stray sides (pieces_of corners.now from.now to.now))) }
 {
-    let mut i: usize = 0;
-    while i < from.len() {
+    for i in 0..from.len() {
         if !edge_line(corners, index, from, to, i, begins, ends, done, counts) {
             return false;
         }
-        i += 1;
     }
     true
 }

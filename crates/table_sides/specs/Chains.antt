@@ -1,6 +1,6 @@
 -- The sides of a table hung in chains, one for each corner: the sides that begin there, the last one first. A chain is followed from the number of its last side to the
 -- number of the side before it. All of it is one list of numbers, with a place for each side; there are no more corners than sides.
-use Rattle.std.specs.Prelude.{◌≡◌, List, ℕ, suc, ◌*◌, ◌/◌, ◌%◌, ◌≤◌, ◌<◌, length, get_or}
+use Rattle.std.specs.Prelude.{◌≡◌, List, ℕ, suc, ◌/◌, ◌%◌, ◌≤◌, ◌<◌, length, get_or}
 
 -- What a number of the list holds, from the lowest digits on: the number of the side before side i that begins at the same corner, the code of side i, the number of
 -- the last side that begins at corner i, and 1 where no corner is inside side i. Numbers of sides are counted from 1, 0 stands for none.

@@ -39,6 +39,7 @@ pub fn side_of(index: &[u64], code: u64) -> usize
 {
     let at = (code / 4096) as usize;
     let mut r = head(index[at]);
+    // A while: the chain is followed.
     while 0 < r {
         if code_in(index[r - 1]) == code {
             return r;

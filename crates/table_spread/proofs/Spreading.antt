@@ -8,15 +8,13 @@ use mathlib.Core.List.{List, [], ◌∷◌}
 use Prim.Native.Nat.{ℕ, zero, suc, ◌+◌, ◌*◌, ◌/◌, ◌≤◌, ◌<◌}
 use native.Mathlib.Omega.{arith}
 use native.Mathlib.Decide.{ℕ_discrete, dec_le}
-use borrow.Author.Count.{below_more}
 use lib.ListN.{length, get_or, set, replicate, length-set, length-replicate, get_or-eq_default}
 use lib.Seq.{get_or-set_same, get_or-set_other}
 use Rattle.whole.specs.Sums.{bit}
-use Rattle.whole.specs.Tests.{Told}
 use Rattle.table.specs.Sides.{mark, across, evenly, once, Shares}
 use Rattle.table.proofs.Nets.{net_is}
 use Rattle.table_labels.specs.Labels.{Sided}
-use Rattle.table_spread.specs.Spreading.{marked, Meeting, Taken, stays, takes, Grown, Entered, Seeded, Forced, Ends, Open, Crossed, Rounded, SpreadFrom, Spread}
+use Rattle.table_spread.specs.Spreading.{marked, Meeting, Taken, stays, takes, Grown, Entered, Seeded, Forced, Open, Crossed, Rounded, SpreadFrom}
 
 -- ---- labels
 pub not_both : (b : Bool) → b ≡ false → b ≡ true → ⊥
@@ -25,15 +23,6 @@ not_both b e f = let z : ◌≡◌ {A = ℕ} 0 1 = ap bit (sym e ∙ f) in omega
 pub is_set : (b : Bool) → bit b ≡ 1 → b ≡ true
 is_set true e = refl
 is_set false e = absurd (omega arith)
-
--- What the answer of a test tells, where the test is that of a branch.
-pub told_true : (A B : Type 0) (r : Bool) → r ≡ true → Told r A B → A
-told_true A B true e h = h
-told_true A B false e h = absurd (not_both false refl e)
-
-pub told_false : (A B : Type 0) (r : Bool) → r ≡ false → Told r A B → B
-told_false A B true e h = absurd (not_both true e refl)
-told_false A B false e h = h
 
 -- ---- the number of labels that are set
 marked_set : (l : List Bool) (t : ℕ) → t < length l → get_or l t false ≡ false → marked (set l t true) ≡ suc (marked l)
@@ -185,20 +174,6 @@ module _ {labels : List Bool} {group : List ℕ} {n : ℕ} (m : Meeting labels g
         go z share v (inl p) = forced.in_set z share v p
         go z share v (inr p) = subst (λ x. get_or z x false ≡ true) p (across_in z share)
 
--- Each of the three sides of a triangle that was labelled may be crossed, where none of them ends.
-pub may_cross : {opposite counts : List ℕ} {labels labels' : List Bool} {group group' : List ℕ} {n n' : ℕ} → Sided opposite counts (length labels) → Grown labels group n labels' group' n'
-    → Forced opposite counts labels' → (t : ℕ) → get_or labels t false ≡ true → (Open opposite counts t → ⊥) → (j k : ℕ) → j < 3 → k ≡ 3 * t + j
-    → Sided opposite counts (length labels') × Meeting labels' group' n' × Forced opposite counts labels' × (k < length opposite) × (get_or labels' (k / 3) false ≡ true) × (Ends opposite counts k → ⊥)
-may_cross {opposite} {counts} {labels} {labels'} sided g forced t own shut j k h e =
-    let q : k / 3 ≡ t = omega arith in (
-      subst (λ m. Sided opposite counts m) (sym g.marks) sided,
-      g.meeting,
-      forced,
-      omega (arith, sided.three, in_table labels t own),
-      ap (λ x. get_or labels' x false) q ∙ g.still t own,
-      λ w. shut (k, q, w),
-    )
-
 -- What grows twice has grown.
 pub grown_more : {labels labels' labels'' : List Bool} {group group' group'' : List ℕ} {n n' n'' : ℕ}
     → Grown labels group n labels' group' n' → Grown labels' group' n' labels'' group'' n'' → Grown labels group n labels'' group'' n''
@@ -212,11 +187,6 @@ grown_more f g = record {
 }
 
 module _ {labels labels' : List Bool} {group group' : List ℕ} {n n' : ℕ} (g : Grown labels group n labels' group' n') where
-  -- The first i touched sides are entered, and the next one.
-  pub entered_one : (counts touched : List ℕ) (i : ℕ) → ((j : ℕ) → j < i → Entered counts labels (get_or touched j 0)) → Entered counts labels' (get_or touched i 0)
-      → (j : ℕ) → j < i + 1 → Entered counts labels' (get_or touched j 0)
-  entered_one counts touched i h e = below_more (λ j. Entered counts labels' (get_or touched j 0)) i (λ j p q. g.still (get_or touched j 0 / 3) (h j p q)) e
-
   pub crossed_still : {opposite counts : List ℕ} (k : ℕ) → Crossed opposite counts labels k → Crossed opposite counts labels' k
   crossed_still k h = record { at = λ e. let c = h.at e in (c.0, c.1, g.still (c.0 / 3) c.2) }
 
@@ -238,18 +208,7 @@ three_sides P t a b c k e = go (ℕ_discrete k (3 * t)) (ℕ_discrete k (3 * t +
     go (no p) (yes q) = subst P (sym q) b
     go (no p) (no q) = subst P (let z : 3 * t + 2 ≡ k = omega arith in z) c
 
--- Where two sides of a triangle don't end it depends on the third.
-pub open_told : (opposite counts : List ℕ) (t : ℕ) → (Ends opposite counts (3 * t) → ⊥) → (Ends opposite counts (3 * t + 1) → ⊥) → (r : Bool)
-    → Told r (Ends opposite counts (3 * t + 2)) (Ends opposite counts (3 * t + 2) → ⊥) → Told r (Open opposite counts t) (Open opposite counts t → ⊥)
-open_told opposite counts t a b true c = (3 * t + 2, omega arith, c)
-open_told opposite counts t a b false c = λ w. three_sides (λ k. Ends opposite counts k → ⊥) t a b c w.0 w.1 w.2
-
 -- ---- the end
--- All triangles of the group are spread from.
-pub all_spread : {opposite counts : List ℕ} {labels : List Bool} {group : List ℕ} {n : ℕ} → Meeting labels group n → Forced opposite counts labels → SpreadFrom opposite counts labels group n
-    → Spread opposite counts labels
-all_spread m f s = record { forced = f; crossed = λ k own. let b = m.by (k / 3) own in s b.0 b.1 k (sym b.2) }
-
 -- Where a labelled triangle has a side that is untouched and has no reverse, no set has these counts for its boundary.
 pub open_none : {opposite counts : List ℕ} {labels : List Bool} → Sided opposite counts (length labels) → Forced opposite counts labels → (t : ℕ) → get_or labels t false ≡ true
     → Open opposite counts t → (s : List Bool) → Shares opposite counts s → ⊥
@@ -259,18 +218,3 @@ open_none {opposite} {counts} {labels} sided forced t own w s share =
     let x : across s (get_or opposite k 0) ≡ 0 = ap (across s) w.2.0 in
     let m : mark s (k / 3) ≡ 1 = ap (mark s) w.1 ∙ ap bit (forced.in_set s share t own) in
     omega (arith, w.2.1)
-
--- Labels that only sides that count once have set are in each set with these counts for its boundary.
-pub seeded_forced : {opposite counts : List ℕ} {labels : List Bool} → length counts ≡ length opposite → Seeded counts labels → Forced opposite counts labels
-seeded_forced {opposite} {counts} {labels} many seeded = record { in_set = in_set }
-  where
-    in_set : (s : List Bool) → Shares opposite counts s → (t : ℕ) → get_or labels t false ≡ true → get_or s t false ≡ true
-    in_set s share t own =
-        let w = seeded.side t own in
-        let k = w.0 in
-        let q = (net_is (get_or counts k 0) (across s (get_or opposite k 0)) (mark s (k / 3))).1 (share k (omega (arith, w.1))) in
-        subst (λ x. get_or s x false ≡ true) w.3 (go (get_or s (k / 3) false) refl (omega (arith, q, w.2)))
-      where
-        go : (b : Bool) → {c : Bool} → c ≡ b → 1 ≤ bit b → c ≡ true
-        go true e h = e
-        go false e h = absurd (omega arith)

@@ -1,37 +1,16 @@
 -- The touched sides: the list has each side with a count other than none, and no other. Assumes nothing.
-use mathlib.Core.Path.{◌≡◌, sym, ◌∙◌, ap, subst}
-use mathlib.Core.Bool.{cond}
-use mathlib.Core.List.{List, [], ◌∷◌, ◌++◌, append_assoc}
+use mathlib.Core.Path.{◌≡◌, ap, subst}
+use mathlib.Core.List.{List, [], ◌∷◌}
 use Prim.Native.Nat.{ℕ, zero, suc, ◌+◌, ◌≤◌, ◌<◌}
 use native.Mathlib.Omega.{arith}
 use native.Mathlib.Decide.{ℕ_discrete}
-use native.Mathlib.Numerals.{add-one}
 use borrow.Author.Tests.{eq-eqb, ne_eqb}
-use lib.Dec.{eqb}
-use lib.ListN.{length, get_or, set, take, drop}
-use lib.Seq.{drop-cons, take-suc-set, length-take-le}
+use lib.ListN.{length, get_or, take}
+use lib.Seq.{length-take-le}
 use Rattle.whole.specs.Sums.{All}
 use Rattle.whole.proofs.Sums.{all_map, all_at}
 use Rattle.table.specs.Sides.{evenly}
 use Rattle.table_spread.specs.Spreading.{touched_from, touched_sides}
-
--- ---- the list grows side by side
-module _ (counts : List ℕ) (k : ℕ) (h : k < length counts) where
-  abbrev rest : ℕ → List ℕ
-  rest k = touched_from k (drop k counts)
-
-  next : rest k ≡ cond (eqb (get_or counts k 0) evenly) (rest (suc k)) (k ∷ rest (suc k))
-  next = ap (touched_from k) (drop-cons counts k 0 h)
-
-  -- An untouched side is left out,
-  pub untouched_next : get_or counts k 0 ≡ evenly → rest k ≡ rest (k + 1)
-  untouched_next e = rw (add-one k) (next ∙ ap (λ b. cond b (rest (suc k)) (k ∷ rest (suc k))) (eq-eqb (get_or counts k 0) evenly e))
-
-  -- and a touched one is put behind the others.
-  pub touched_next : (get_or counts k 0 ≡ evenly → ⊥) → (sides : List ℕ) (n : ℕ) → n < length sides → take n sides ++ rest k ≡ take (n + 1) (set sides n k) ++ rest (k + 1)
-  touched_next e sides n l = rw (add-one n, add-one k)
-      (ap (λ r. take n sides ++ r) (next ∙ ap (λ b. cond b (rest (suc k)) (k ∷ rest (suc k))) (ne_eqb (get_or counts k 0) evenly e))
-      ∙ sym (append_assoc (take n sides) (k ∷ []) (rest (suc k))) ∙ ap (λ r. r ++ rest (suc k)) (sym (take-suc-set sides n k l)))
 
 -- ---- what stands in the list
 -- Number j is that of a touched side, where the first side is number k.

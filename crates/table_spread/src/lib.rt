@@ -1,7 +1,7 @@
 // Labels that spread: from the sides that a polygon touches, across the sides that it doesn't, and the last comparison at the touched sides.
 #![tactic(auto)]
 
-ghost use Rattle.std.specs.Prelude.{◌≡◌, Bool, true, false, List, ℕ, ◌+◌, ◌*◌, ◌/◌, ◌≤◌, ◌<◌, length, get_or, take, replicate};
+ghost use Rattle.std.specs.Prelude.{◌≡◌, Bool, true, false, List, ℕ, ◌+◌, ◌*◌, ◌/◌, ◌≤◌, ◌<◌, length, get_or, take};
 ghost use Rattle.whole.specs.Sums.{All};
 ghost use Rattle.whole.specs.Tests.{Told};
 ghost use Rattle.table.specs.Sides.{Shares};
@@ -13,27 +13,14 @@ pub fn touched(counts: &[u32], sides: &mut [usize]) -> usize
     requires { length sides.old ≡ length counts.now }
     ensures { (take result sides.new ≡ touched_sides counts.now) × (result ≤ length sides.new) }
 {
-    let mut n: usize = 0;
-    let mut k: usize = 0;
-    while k < counts.len() {
-        if counts[k] != table::EVEN {
+    let mut n = 0;
+    for (k, &count) in counts.iter().enumerate() {
+        if count != table::EVEN {
             sides[n] = k;
             n += 1;
         }
-        k += 1;
     }
     n
-}
-
-// No triangle is labelled.
-fn clear(labels: &mut [bool])
-    ensures { labels.new ≡ replicate (length labels.old) false }
-{
-    let mut t: usize = 0;
-    while t < labels.len() {
-        labels[t] = false;
-        t += 1;
-    }
 }
 
 // Triangle t is labelled and taken into the group, unless it is labelled.
@@ -65,12 +52,9 @@ fn starts(counts: &[u32], touched: &[usize], labels: &mut [bool], group: &mut [u
     requires { (length counts.now ≡ 3 * length labels.old) × Meeting labels.old group.old 0 × Seeded counts.now labels.old × All (λ k. k < length counts.now) touched.now }
     ensures { Grown labels.old group.old 0 labels.new group.new result × Seeded counts.now labels.new × All (Entered counts.now labels.new) touched.now }
 {
-    let mut n: usize = 0;
-    let mut i: usize = 0;
-    while i < touched.len() {
-        let k = touched[i];
+    let mut n = 0;
+    for &k in touched {
         n = enter(counts, k, labels, group, n);
-        i += 1;
     }
     n
 }
@@ -118,13 +102,7 @@ fn ends(opposite: &[usize], counts: &[u32], k: usize) -> bool
     requires { (k < length opposite.now) × (k < length counts.now) }
     ensures { Told result (Ends opposite.now counts.now k) (Ends opposite.now counts.now k → ⊥) }
 {
-    if opposite[k] != 0 {
-        return false;
-    }
-    if counts[k] == table::EVEN {
-        return true;
-    }
-    false
+    opposite[k] == 0 && counts[k] == table::EVEN
 }
 
 // A side of triangle t is untouched and has no reverse.
@@ -133,13 +111,7 @@ fn open(opposite: &[usize], counts: &[u32], t: usize) -> bool
     ensures { Told result (Open opposite.now counts.now t) (Open opposite.now counts.now t → ⊥) }
 {
     let k = 3 * t;
-    if ends(opposite, counts, k) {
-        return true;
-    }
-    if ends(opposite, counts, k + 1) {
-        return true;
-    }
-    ends(opposite, counts, k + 2)
+    ends(opposite, counts, k) || ends(opposite, counts, k + 1) || ends(opposite, counts, k + 2)
 }
 
 // From each triangle in the group those across its untouched sides; false where such a side has no reverse.
@@ -156,6 +128,7 @@ fn spreads(
 {
     let mut n = first;
     let mut i: usize = 0;
+    // A while: the group grows as it is gone through.
     while i < n {
         let t = group[i];
         if open(opposite, counts, t) {
@@ -179,7 +152,7 @@ pub fn spread(
     ensures { (length labels.new ≡ length labels.old)
         × Told result (Shares opposite.now counts.now labels.new) ((s : List Bool) → length s ≡ length labels.old → Shares opposite.now counts.now s → ⊥) }
 {
-    clear(labels);
+    labels.fill(false);
     let n = starts(counts, touched, labels, group);
     if !spreads(opposite, counts, labels, group, n) {
         return false;

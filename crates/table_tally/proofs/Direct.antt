@@ -1,21 +1,19 @@
 -- Counting an edge at its side. The idea: one pair more changes the boundary at its own side by one, at the reverse of it by one the other way, and nowhere else, since no
 -- side stands twice; a side of which it is noted that no corner is inside is its only piece. Assumes nothing.
 use mathlib.Core.Path.{◌≡◌, refl, sym, ◌∙◌, ap, subst}
-use mathlib.Core.Logic.{◌⊎◌, inl, inr, ⊎_elim}
+use mathlib.Core.Logic.{inl, inr}
 use mathlib.Core.Bool.{Bool, true, false, cond, ◌||◌}
-use mathlib.Core.List.{List, [], ◌∷◌, ◌++◌, append-nil}
+use mathlib.Core.List.{List, [], ◌∷◌, ◌++◌}
 use Prim.Native.Nat.{ℕ, zero, suc, ◌+◌, ◌-◌, ◌≤◌, ◌<◌}
 use native.Mathlib.Omega.{arith}
 use native.Mathlib.Decide.{ℕ_discrete}
 use borrow.Author.Tests.{eq-eqb, ne_eqb, ltb-true}
-use lib.Dec.{T, eqb, eqb→eq, ltb}
-use lib.IntN.{pos}
-use lib.ListN.{length, get_or, set, take, length-set}
-use lib.Seq.{get_or-set_same, get_or-set_other, take_all}
+use lib.Dec.{T, eqb, eqb→eq}
+use lib.ListN.{length, get_or, set, length-set}
+use lib.Seq.{get_or-set_same, get_or-set_other}
 use Rattle.whole.specs.Sums.{All, bit, count, Among}
-use Rattle.whole.proofs.Sums.{all_at, all_map, all-++, bit_iff, bit_small, count-++}
+use Rattle.whole.proofs.Sums.{all_at, all-++, bit_iff, bit_small, count-++}
 use Rattle.plane.specs.Points.{Edge, flip, same_edge, between}
-use Rattle.plane.specs.Boundaries.{boundary}
 use Rattle.plane.specs.Cuts.{pieces}
 use Rattle.plane.specs.Keys.{pair, point_at, points_at}
 use Rattle.plane.proofs.Points.{same_edge-eq, same_edge-refl}
@@ -25,7 +23,7 @@ use Rattle.table.specs.Opposites.{found_at}
 use Rattle.table.specs.Sides.{evenly}
 use Rattle.table.proofs.Shares.{Found, found_at_lem, at_counted}
 use Rattle.table_sides.specs.Chains.{clear_in}
-use Rattle.table_count.specs.Counting.{side_of, Looked, Tallied, Settled, pieces_of, first_pieces, ClearOf}
+use Rattle.table_count.specs.Counting.{side_of, Looked, Tallied, first_pieces, ClearOf}
 use Rattle.table_count.proofs.Counted.{tallied_sum, tallied_from}
 use Rattle.table_count.proofs.Pieces.{first_more}
 use Rattle.table_tally.specs.Direct.{noted_at, added, OnSide, Counted}
@@ -117,10 +115,6 @@ sure : (b : Bool) → T b → b ≡ true
 sure true t = refl
 sure false t = absurd t
 
-pub noted_at_lem : (index : List ℕ) (s : ℕ) → 0 < s → ltb 0 (clear_in (get_or index (s - 1) 0)) ≡ noted_at index s
-noted_at_lem index zero h = absurd (omega arith)
-noted_at_lem index (suc k) h = let e : suc k - 1 ≡ k = omega arith in ap (λ j. ltb 0 (clear_in (get_or index j 0))) e
-
 module _ (sides : List Edge) (corners index : List ℕ) (looked : Looked sides corners index) where
   -- It is a side, and no corner is inside.
   noted_side : (u v : ℕ) → T (noted_at index (found_at (pair u v) sides)) → Among same_edge (pair u v) sides × ClearOf corners u v
@@ -157,12 +151,3 @@ module _ (sides : List Edge) (corners from to : List ℕ) (as_many : length to �
       let e = pair (get_or from i 0) (get_or to i 0) in
       let q : first_pieces corners from to i ++ e ∷ [] ≡ first_pieces corners from to (suc i) = sym (first_more corners from to as_many i h ∙ ap (λ l. first_pieces corners from to i ++ l) only) in
       (subst (λ l. Tallied sides l counts) q t, subst (All (OnSide sides)) q (all-++ (OnSide sides) (first_pieces corners from to i) (e ∷ []) a (on_side, tt)))
-
-  -- All edges.
-  pub counted_all : (i : ℕ) (counts : List ℕ) → length from ≤ i → Counted sides (first_pieces corners from to i) counts → Counted sides (pieces_of corners from to) counts
-  counted_all i counts h c =
-      subst (λ l. Counted sides (pieces_of corners l to) counts) (take_all i from h) (subst (λ l. Counted sides (pieces_of corners (take i from) l) counts) (take_all i to (omega arith)) c)
-
--- Pieces that are sides, or reverses of sides, are settled.
-pub settled_on_sides : (sides p l : List Edge) → All (OnSide sides) l → Settled sides p l
-settled_on_sides sides p l a = all_map (OnSide sides) (λ e. Among same_edge e sides ⊎ Among same_edge (flip e) sides ⊎ (boundary p e ≡ pos 0)) (λ e w. ⊎_elim inl (λ x. inr (inl x)) w) l a

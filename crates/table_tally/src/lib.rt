@@ -43,10 +43,7 @@ fn either_noted(index: &[u64], s: usize, o: usize) -> bool
     requires { (s ≤ length index.now) × (o ≤ length index.now) }
     ensures { result ≡ (noted_at index.now s || noted_at index.now o) }
 {
-    if noted(index, s) {
-        return true;
-    }
-    noted(index, o)
+    noted(index, s) || noted(index, o)
 }
 
 // Counts the edge between two corners, given by their numbers among the corners, counted from 1, where it is a side with no corner inside or the reverse of one; false
@@ -92,17 +89,15 @@ fn count_edges(corners: &[u64], index: &[u64], from: &[u64], to: &[u64], counts:
     ensures { (sides : List Edge) → Looked sides corners.now index.now → length counts.old ≡ length sides
         → Told result (Counted sides (pieces_of corners.now from.now to.now) counts.new) (Unit {0}) }
 {
-    let mut last: u64 = 0;
+    let mut last = 0;
     let mut b = table_count::rank(corners, last);
-    let mut i: usize = 0;
-    while i < from.len() {
-        let a = rank_after(corners, from[i], last, b);
-        last = to[i];
+    for (&u, &v) in from.iter().zip(to) {
+        let a = rank_after(corners, u, last, b);
+        last = v;
         b = table_count::rank(corners, last);
         if !count_edge(corners, index, a, b, counts) {
             return false;
         }
-        i += 1;
     }
     true
 }

@@ -6,9 +6,10 @@ use mathlib.Core.Bool.{Bool, true, false, cond}
 use mathlib.Core.List.{List, [], ◌∷◌}
 use Prim.Native.Nat.{ℕ, ◌+◌, ◌-◌, ◌≤◌, ◌<◌}
 use native.Mathlib.Omega.{arith}
-use native.Mathlib.Decide.{dec_le, ℕ_discrete}
-use borrow.Author.Tests.{ltb-true, ltb-false, eq-eqb, ne_eqb}
-use lib.Dec.{T, eqb, ltb}
+use native.Mathlib.Decide.{dec_le, dec_lt, ℕ_discrete}
+use Rattle.std.proofs.lemmas.List.{get_or_default, get_or_past}
+use borrow.Author.Tests.{eq-eqb, ne_eqb}
+use lib.Dec.{T, eqb}
 use lib.ListN.{length, get_or}
 use Rattle.whole.specs.Sums.{All, bit, count}
 use Rattle.whole.proofs.Sums.{all_at, count-++}
@@ -35,7 +36,7 @@ between_second x d u v h k = between_flip d (v ⟶ u) (between_first x d v u (be
 
 -- ---- the first corner
 module _ (corners : List ℕ) (order : Ascending corners) (keys : All Key corners) (u v : ℕ) (way : u < v) (key-v : Key v) (at r c : ℕ) (begin : at ≡ place_of u corners) (stop : NextStop corners at u v r)
-    (is : c ≡ cond (ltb r (length corners)) (get_or corners r 0) v) where
+    (is : c ≡ get_or corners r v) where
   pub record First : Type 0 where
     pub onward : u < c
     pub within : c ≤ v
@@ -45,14 +46,14 @@ module _ (corners : List ℕ) (order : Ascending corners) (keys : All Key corner
     pub law : (e : Edge) → count same_edge e (pieces (points_at corners) (pair u v)) ≡ bit (same_edge (pair u c) e) + count same_edge e (pieces (points_at corners) (pair c v))
 
   pub first_stop : First
-  first_stop = go (ltb r (length corners)) refl is
+  first_stop = go (dec_lt r (length corners))
     where
       none : NoneBefore corners at u v
       none = subst (λ a. (j : ℕ) → j < a → j < length corners → T (between (point_at (get_or corners j 0)) (pair u v)) → ⊥) (sym begin) (none_before corners order u v way)
 
-      go : (b : Bool) → ltb r (length corners) ≡ b → c ≡ cond b (get_or corners r 0) v → First
-      go true e q =
-          let h = ltb-true r (length corners) e in
+      go : Dec (r < length corners) → First
+      go (yes h) =
+          let q : c ≡ get_or corners r 0 = is ∙ get_or_default corners r v 0 h in
           let w = stop_within corners order u v way at r none stop h in
           record {
             onward = omega (arith, w);
@@ -62,8 +63,9 @@ module _ (corners : List ℕ) (order : Ascending corners) (keys : All Key corner
             clear = subst (ClearOf corners u) (sym q) (stop_clear corners order u v way at r none stop h);
             law = λ e. subst (λ z. count same_edge e (pieces (points_at corners) (pair u v)) ≡ bit (same_edge (pair u z) e) + count same_edge e (pieces (points_at corners) (pair z v))) (sym q) (ap (count same_edge e) (stop_piece corners order u v way at r none stop h));
           }
-      go false e q =
-          let h = ltb-false r (length corners) e in
+      go (no n) =
+          let h : length corners ≤ r = omega arith in
+          let q : c ≡ v = is ∙ get_or_past corners r v h in
           record {
             onward = omega arith;
             within = omega arith;
@@ -75,9 +77,8 @@ module _ (corners : List ℕ) (order : Ascending corners) (keys : All Key corner
           }
 
 -- ---- the last corner
-module _ (corners : List ℕ) (order : Ascending corners) (keys : All Key corners) (u v : ℕ) (way : u < v) (key-u : Key u) (stands-u : IsIn u corners) (at r c : ℕ) (begin : at ≡ place_of v corners) (stop : LastStop corners at u v r)
-    (is : c ≡ cond (ltb 0 r) (get_or corners (r - 1) 0) u) where
-  pub record Last : Type 0 where
+module _ (corners : List ℕ) (order : Ascending corners) (keys : All Key corners) (u v : ℕ) (way : u < v) (key-u : Key u) (stands-u : IsIn u corners) (at : ℕ) (begin : at ≡ place_of v corners) where
+  pub record Last (c : ℕ) : Type 0 where
     pub after : u ≤ c
     pub before : c < v
     pub key : Key c
@@ -86,8 +87,8 @@ module _ (corners : List ℕ) (order : Ascending corners) (keys : All Key corner
     pub law : (e : Edge) → count same_edge e (pieces (points_at corners) (pair u v)) ≡ bit (same_edge (pair c v) e) + count same_edge e (pieces (points_at corners) (pair u c))
 
   -- A corner strictly between stands before r.
-  earlier : (d : Point) → (w : ℕ) × IsIn w corners × (d ≡ point_at w) → T (between d (pair u v)) → (j : ℕ) × (j < r) × (j < length corners) × (point_at (get_or corners j 0) ≡ d)
-  earlier d w t = go (dec_le r j)
+  earlier : (r : ℕ) → LastStop corners at u v r → (d : Point) → (w : ℕ) × IsIn w corners × (d ≡ point_at w) → T (between d (pair u v)) → (j : ℕ) × (j < r) × (j < length corners) × (point_at (get_or corners j 0) ≡ d)
+  earlier r stop d w t = go (dec_le r j)
     where
       j : ℕ
       j = w.1.0
@@ -105,54 +106,51 @@ module _ (corners : List ℕ) (order : Ascending corners) (keys : All Key corner
   one_piece : (x : ℕ) (e : Edge) → x < v → ClearOf corners x v → count same_edge e (pieces (points_at corners) (pair x v)) ≡ bit (same_edge (pair x v) e) + 0
   one_piece x e h k = ap (count same_edge e) (last_piece (points_at corners) (point_at x) (point_at v) (λ q. let z = point_at-injective x v q in omega arith) k)
 
-  pub last_stop : Last
-  last_stop = go (ltb 0 r) refl is
+  pub last_stop : (i : ℕ) → LastStop corners at u v (i + 1) → Last (get_or corners i 0)
+  last_stop i stop =
+      let e : i + 1 - 1 ≡ i = omega arith in
+      let within : i < length corners = omega (arith, stop.within, place_within v corners) in
+      let x = get_or corners i 0 in
+      let t : T (between (point_at x) (pair u v)) = subst (λ j. T (between (point_at (get_or corners j 0)) (pair u v))) e (stop.stop (omega arith)) in
+      let o = between_order x u v way t in
+      let stands : IsIn x corners = (i, within, refl) in
+      let clear : ClearOf corners x v = λ d m s.
+      let w = earlier (i + 1) stop d (among_corner corners d m) (between_second (point_at x) d (point_at u) (point_at v) t s) in
+      let s' : T (between (point_at (get_or corners w.0 0)) (pair x v)) = subst (λ z. T (between z (pair x v))) (sym w.3) s in
+      let below = (between_order (get_or corners w.0 0) x v o.1 s').0 in
+      not_later w.0 i (omega (arith, w.1)) within below in
+      record {
+        after = omega (arith, o);
+        before = o.1;
+        key = all_at Key 0 corners i keys within;
+        ends = stands;
+        clear = clear;
+        law = λ e. omega (
+          arith,
+          ap (count same_edge e) (split_pieces (points_at corners) (point_at u) (point_at x) (point_at v) (stands_corner corners x stands) t),
+          count-++ same_edge same_edge-eq same_edge-refl e (pieces (points_at corners) (pair u x)) (pieces (points_at corners) (pair x v)),
+          one_piece x e o.1 clear,
+        );
+      }
     where
-      go : (b : Bool) → ltb 0 r ≡ b → c ≡ cond b (get_or corners (r - 1) 0) u → Last
-      go true e q =
-          let h = ltb-true 0 r e in
-          let within : r - 1 < length corners = omega (arith, stop.within, place_within v corners) in
-          let t = stop.stop h in
-          let x = get_or corners (r - 1) 0 in
-          let o = between_order x u v way t in
-          let stands : IsIn x corners = (r - 1, within, refl) in
-          let clear : ClearOf corners x v = λ d m s.
-          let w = earlier d (among_corner corners d m) (between_second (point_at x) d (point_at u) (point_at v) t s) in
-          let s' : T (between (point_at (get_or corners w.0 0)) (pair x v)) = subst (λ z. T (between z (pair x v))) (sym w.3) s in
-          let below = (between_order (get_or corners w.0 0) x v o.1 s').0 in
-          not_later w.0 (r - 1) (omega (arith, w.1)) within below in
-          record {
-            after = omega (arith, o);
-            before = omega (arith, o);
-            key = subst Key (sym q) (all_at Key 0 corners (r - 1) keys within);
-            ends = subst (λ z. IsIn z corners) (sym q) stands;
-            clear = subst (λ z. ClearOf corners z v) (sym q) clear;
-            law = λ e. subst (λ z. count same_edge e (pieces (points_at corners) (pair u v)) ≡ bit (same_edge (pair z v) e) + count same_edge e (pieces (points_at corners) (pair u z))) (sym q) (omega (
-              arith,
-              ap (count same_edge e) (split_pieces (points_at corners) (point_at u) (point_at x) (point_at v) (stands_corner corners x stands) t),
-              count-++ same_edge same_edge-eq same_edge-refl e (pieces (points_at corners) (pair u x)) (pieces (points_at corners) (pair x v)),
-              one_piece x e o.1 clear,
-            ));
-          }
+      not_later : (j k : ℕ) → j ≤ k → k < length corners → get_or corners k 0 < get_or corners j 0 → ⊥
+      not_later j k h l b = same (ℕ_discrete j k)
         where
-          not_later : (j k : ℕ) → j ≤ k → k < length corners → get_or corners k 0 < get_or corners j 0 → ⊥
-          not_later j k h l b = same (ℕ_discrete j k)
-            where
-              same : Dec (j ≡ k) → ⊥
-              same (yes e) = let q : get_or corners j 0 ≡ get_or corners k 0 = ap (λ z. get_or corners z 0) e in omega arith
-              same (no n) = omega (arith, ascending_below corners j k order (omega arith) l)
-      go false e q =
-          let h = ltb-false 0 r e in
-          let clear : ClearOf corners u v = λ d m s. let w = earlier d (among_corner corners d m) s in omega (arith, w.1) in
-          record {
-            after = omega arith;
-            before = omega arith;
-            key = subst Key (sym q) key-u;
-            ends = subst (λ z. IsIn z corners) (sym q) stands-u;
-            clear = subst (λ z. ClearOf corners z v) (sym q) clear;
-            law = λ e. subst (λ z. count same_edge e (pieces (points_at corners) (pair u v)) ≡ bit (same_edge (pair z v) e) + count same_edge e (pieces (points_at corners) (pair u z))) (sym q)
-                (one_piece u e way clear ∙ ap (λ n. bit (same_edge (pair u v) e) + n) (sym (ap (count same_edge e) (no_length (points_at corners) (point_at u)))));
-          }
+          same : Dec (j ≡ k) → ⊥
+          same (yes e) = let q : get_or corners j 0 ≡ get_or corners k 0 = ap (λ z. get_or corners z 0) e in omega arith
+          same (no n) = omega (arith, ascending_below corners j k order (omega arith) l)
+
+  pub no_stop : LastStop corners at u v 0 → Last u
+  no_stop stop =
+      let clear : ClearOf corners u v = λ d m s. let w = earlier 0 stop d (among_corner corners d m) s in omega (arith, w.1) in
+      record {
+        after = omega arith;
+        before = way;
+        key = key-u;
+        ends = stands-u;
+        clear = clear;
+        law = λ e. one_piece u e way clear ∙ ap (λ n. bit (same_edge (pair u v) e) + n) (sym (ap (count same_edge e) (no_length (points_at corners) (point_at u))));
+      }
 
 -- ---- the pair from u to v, where they are not one
 way_count : (u v : ℕ) (e : Edge) → (u ≡ v → ⊥) → count same_edge e (way u v) ≡ bit (same_edge (pair u v) e)
@@ -198,10 +196,10 @@ module _ (corners : List ℕ) (u v : ℕ) (key-u : Key u) (key-v : Key v) where
 
 -- ---- what is left of an edge, in whichever direction it goes
 module _ (corners : List ℕ) (p q x y : ℕ) where
-  left_up : Headed corners p q x → Tailed corners x q y → Left corners p q x y
+  pub left_up : Headed corners p q x → Tailed corners x q y → Left corners p q x y
   left_up h t = record { from_key = h.key; to_key = t.key; ends = t.ends; loose_from = h.loose; loose_to = t.loose; cut = λ e. omega (arith, h.cut e, t.cut e) }
 
-  left_down : Headed corners q p x → Tailed corners x p y → Left corners p q y x
+  pub left_down : Headed corners q p x → Tailed corners x p y → Left corners p q y x
   left_down h t = record {
     from_key = t.key;
     to_key = h.key;
@@ -222,18 +220,3 @@ module _ (corners : List ℕ) (p q x y : ℕ) where
       turned : (IsIn x corners × IsIn y corners) ⊎ (x ≡ y) → (IsIn y corners × IsIn x corners) ⊎ (y ≡ x)
       turned (inl s) = inl (s.1, s.0)
       turned (inr e) = inr (sym e)
-
-  pub left_either : (b : Bool) → Headed corners (cond b p q) (cond b q p) x → Tailed corners x (cond b q p) y → Left corners p q (cond b x y) (cond b y x)
-  left_either true h t = left_up h t
-  left_either false h t = left_down h t
-
-pub ordered : (p q : ℕ) → cond (ltb p q) p q ≤ cond (ltb p q) q p
-ordered p q = go (ltb p q) refl
-  where
-    go : (b : Bool) → ltb p q ≡ b → cond b p q ≤ cond b q p
-    go true e = omega (arith, ltb-true p q e)
-    go false e = ltb-false p q e
-
-pub either : (P : ℕ → Type 0) (b : Bool) (p q : ℕ) → P p → P q → P (cond b p q)
-either P true p q x y = x
-either P false p q x y = y

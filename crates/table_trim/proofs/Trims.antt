@@ -3,7 +3,7 @@
 use mathlib.Core.Path.{◌≡◌, refl, sym, ◌∙◌, ap, subst}
 use mathlib.Core.Logic.{◌⊎◌, inl, inr}
 use mathlib.Core.Bool.{Bool, true, false}
-use mathlib.Core.List.{List, [], ◌∷◌, ◌++◌, flat_map}
+use mathlib.Core.List.{List, [], ◌∷◌, ◌++◌}
 use Prim.Native.Nat.{ℕ, zero, suc, ◌+◌, ◌≤◌, ◌<◌}
 use native.Mathlib.Omega.{arith}
 use native.Mathlib.Decide.{dec_le, ℕ_discrete}
@@ -19,12 +19,12 @@ use Rattle.plane.specs.Boundaries.{SameBoundary}
 use Rattle.plane.specs.Keys.{point_at, Key, pair, pairs, points_at}
 use Rattle.plane.proofs.Points.{same_edge-eq, same_edge-refl}
 use Rattle.plane.proofs.Cuts.{no_length}
-use Rattle.whole_order.specs.Ascending.{Ascending, IsIn}
+use Rattle.whole_order.specs.Ascending.{IsIn}
 use Rattle.table_count.specs.Counting.{pieces_of, first_pieces}
 use Rattle.table_count.proofs.Pieces.{count_more, pieces_more, zero_boundary}
 use Rattle.table_loose.specs.Loose.{way, Came}
 use Rattle.table_loose.proofs.Coming.{same_from, same_counts}
-use Rattle.table_trim.specs.Trimming.{Loose, Cornerly, Left, unless, Trimmed, Reduced, Astray}
+use Rattle.table_trim.specs.Trimming.{Loose, Cornerly, Left, unless, Trimmed, Astray}
 use Rattle.table_trim.proofs.Loose.{loose_flip, loose_side, not_both, pieces_cornerly}
 
 -- How often a pair stands in two lists, one behind the other.
@@ -140,36 +140,12 @@ pub trimmed_put : (corners from to : List ℕ) (i : ℕ) → i < length from →
     → (fs' ts' : List ℕ) → fs' ≡ fs ++ unless (eqb s t) s → ts' ≡ ts ++ unless (eqb s t) t → Trimmed corners from to (i + 1) fs' ts' n
 trimmed_put corners from to i h g few fs ts l m n s t w rest first second fs' ts' p q = rw (p, q) (trimmed_more corners from to i h g few fs ts l m n s t w rest first second)
 
--- ---- at first, and in the end
-pub trimmed_none : (corners from to : List ℕ) → Ascending corners → All Key corners → length corners ≤ 3072 → Trimmed corners from to 0 [] [] []
-unfolding flat_map
-trimmed_none corners from to a k f = record {
-  cornered = record { ascending = a; few_corners = f; corner_keys = k; from_keys = tt; to_keys = tt; from_stand = tt; to_stand = tt; as_many = refl; few = omega arith; long = λ j h. absurd (omega arith) };
-  number = omega arith;
-  boundary = λ e. refl;
-  each_loose = tt;
-  apart = λ e m. absurd (omega arith);
-}
-
+-- ---- in the end
 module _ (corners from to fs ts : List ℕ) (i : ℕ) (loose : List Edge) (as_many : length to ≡ length from) (whole : length from ≤ i) (trimmed : Trimmed corners from to i fs ts loose) where
   all_first : SameBoundary (pieces_of corners from to) (pieces_of corners fs ts ++ loose)
   all_first = rw (take_all i from (omega arith), take_all i to (omega arith)) at trimmed.boundary
 
-  -- No pair is open.
-  pub trimmed_all : loose ≡ [] → Reduced corners from to fs ts
-  trimmed_all q = record {
-    cornered = trimmed.cornered;
-    boundary = λ e. same_from (pieces_of corners from to) (pieces_of corners fs ts) e (omega (
-      arith,
-      same_counts (pieces_of corners from to) (pieces_of corners fs ts ++ loose) e (all_first e),
-      both e (pieces_of corners fs ts) loose,
-      both (flip e) (pieces_of corners fs ts) loose,
-      ap (count same_edge e) q,
-      ap (count same_edge (flip e)) q,
-    ));
-  }
-
-  -- One is: it is a stray pair.
+  -- A pair that is open is a stray one.
   pub trimmed_astray : (e : Edge) → Among same_edge e loose → Astray corners from to
   trimmed_astray e m sides index looked =
       let l : Loose corners e = counted same_edge same_edge-eq same_edge-refl (Loose corners) e loose m trimmed.each_loose in

@@ -11,6 +11,7 @@ pub fn root(n: u64) -> u64
     ensures { result ≡ root n }
 {
     let mut r = 1u64 << ((65 - u64::leading_zeros(n)) / 2);
+    // A while: Newton's iteration, which ends where the square is above n no more.
     while n < r * r {
         r = (r + n / r) / 2;
     }

@@ -1,22 +1,16 @@
 -- Laws of the steps' definitions, which several proofs cite. Assumes nothing.
-use borrow.Author.Tests.{ne_eqb, eq-eqb, lt-ltb, le-ltb, le-leb, leb-true, eqb-true}
-use mathlib.Core.Path.{◌≡◌, refl, ◌∙◌}
-use mathlib.Core.Bool.{Bool, true, false, ◌&&◌, and-eq-true_iff}
-use Prim.Native.Nat.{ℕ, ◌+◌, ◌-◌, ◌≤◌, ◌<◌}
+use borrow.Author.Tests.{lt-ltb, le-ltb, leb-true, eqb-true}
+use mathlib.Core.Path.{◌≡◌, refl}
+use mathlib.Core.Bool.{Bool, true, false, and-eq-true_iff}
+use Prim.Native.Nat.{ℕ, ◌-◌, ◌<◌}
 use native.Mathlib.Omega.{arith}
-use lib.Dec.{leb, ltb, eqb}
+use lib.Dec.{leb, ltb}
 use Rattle.whole.proofs.Tests.{by_equal, by_cond}
-use Rattle.lent_fields.proofs.Remains.{within}
 use Rattle.wkb.specs.declared.Cursor.{Cursor}
 use Rattle.wkb_kinds.specs.declared.Slot.{Slot}
 use Rattle.wkb_kinds.specs.declared.Slot.TheVariants.{Sheet, Table, Piece, Part, Member}
 use Rattle.wkb.specs.Places.{moved, geometries_to_come, header_to_come, second_to_come, third_to_come, fourth_to_come}
-use Rattle.wkb.specs.Steps.{complete, popped, with_members, count_fits, ring_fits}
-
--- Where nothing else is to come, the points decide.
-pub complete_points : (c : Cursor) → c.header ≡ false → c.second ≡ 0 → c.third ≡ 0 → c.fourth ≡ 0 → c.parts ≡ 0 → c.rings ≡ 0 → complete c ≡ eqb c.points 0
-unfolding complete
-complete_points c h s t f p r = simp (h, eq-eqb c.second 0 s, eq-eqb c.third 0 t, eq-eqb c.fourth 0 f, eq-eqb c.parts 0 p, eq-eqb c.rings 0 r)
+use Rattle.wkb.specs.Steps.{popped, with_members, count_fits}
 
 -- What one fewer leaves as it was; the member's own header is not to come then.
 pub record Popped (c d : Cursor) : Type 0 where
@@ -69,14 +63,3 @@ count_some limit Table n e = let h = leb-true 2 n ((and-eq-true_iff (leb 2 n) (l
 count_some limit Piece n e = let h = eqb-true n 1 e in omega arith
 count_some limit Part n e = leb-true 1 n ((and-eq-true_iff (leb 1 n) (leb n 64)).0 e).0
 count_some limit Member n e = leb-true 1 n ((and-eq-true_iff (leb 1 n) (leb n 64)).0 e).0
-
--- Of a ring that is no table piece's: the test of the total as the code asks it, and what it says.
-pub ring_total : (c : Cursor) (n : ℕ) → (c.member ≡ 1 → ⊥) → 4 ≤ n → n ≤ 4096 → leb c.total (4096 - n) ≡ ring_fits c n
-unfolding ring_fits
-ring_total c n m l h = within c.total n (c.total + n) 4096 h refl ∙ simp (ne_eqb c.member 1 m, le-leb 4 n l, le-leb n 4096 h)
-
-pub ring_sum : (c : Cursor) (n : ℕ) → (c.member ≡ 1 → ⊥) → ring_fits c n ≡ true → c.total + n ≤ 4096
-unfolding ring_fits
-ring_sum c n m e =
-    leb-true (c.total + n) 4096
-    ((and-eq-true_iff (leb 4 n && leb n 4096) (leb (c.total + n) 4096)).0 (simp (ne_eqb c.member 1 m) at e)).1

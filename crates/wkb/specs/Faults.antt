@@ -1,5 +1,5 @@
 -- Where a step is refused: what is at fault at the field, and that nothing before it in the step is.
-use Rattle.std.specs.Prelude.{◌≡◌, Bool, true, false, not, cond, ◌&&◌, List, ℕ, ◌+◌, ◌≤◌, ◌<◌, eqb, length, get_or}
+use Rattle.std.specs.Prelude.{◌≡◌, true, false, not, cond, ◌&&◌, List, ℕ, ◌+◌, ◌≤◌, ◌<◌, eqb, length, get_or}
 use Rattle.lent_little.specs.Ordered.{word_at}
 use Rattle.wkb.specs.declared.Cursor.{Cursor}
 use Rattle.wkb.specs.Steps.{slot_of, complete, kind_fault, count_fits, ring_fits}

@@ -1,5 +1,8 @@
 -- The steps of reading: what one step answers at a place. At each field a missing byte comes before any fault of the value.
-use Rattle.std.specs.Prelude.{Bool, false, true, not, cond, ◌&&◌, List, ℕ, ◌+◌, ◌-◌, leb, ltb, eqb, length, get_or}
+use Rattle.std.specs.Prelude.{Option, Some, None, Bool, false, true, not, cond, ◌&&◌, List, ℕ, ◌+◌, ◌-◌, leb, ltb, eqb, length, get_or}
+use Rattle.lent.specs.declared.Reason.{Reason}
+use Rattle.lent.specs.declared.Reason.TheVariants.{Short, ByteOrder, Count, Behind}
+use Rattle.lent.specs.Refusals.{code_of as reason_code}
 use Rattle.wkb.specs.declared.Cursor.{Cursor}
 use Rattle.wkb_kinds.specs.declared.Slot.{Slot}
 use Rattle.wkb_kinds.specs.declared.Slot.TheVariants.{Sheet, Table, Piece, Part, Member}
@@ -8,7 +11,7 @@ use Rattle.wkb.specs.declared.Told.{Told}
 use Rattle.wkb.specs.declared.Step.TheVariants.{Geometry, Ring, Point, End, Refused}
 use Rattle.wkb_kinds.specs.Kinds.{slot_at}
 use Rattle.wkb.specs.Places.{moved, naming, header_to_come, second_to_come, third_to_come, fourth_to_come, parts_to_come, rings_to_come, ordered, points_to_come, polygons_begun, points_counted}
-use Rattle.wkb_kinds.specs.Types.{crowded_at, deep_at, fault_at}
+use Rattle.wkb_kinds.specs.Types.{crowded_at, deep_at, fault_at, code_told}
 use Rattle.lent_little.specs.Ordered.{remains, word_at, double_at}
 
 -- The place before the first byte of a sheet that may have so many members, the table among them: the sheet's own header is to come.
@@ -37,33 +40,34 @@ code_of (Geometry kind count c) = 0
 code_of (Ring count c) = 0
 code_of (Point x y c) = 0
 code_of (End c) = 0
-code_of (Refused code item field c) = code
+code_of (Refused reason item field c) = reason_code reason
 
 abbrev pub item_of : Step → ℕ
 item_of (Geometry kind count c) = 0
 item_of (Ring count c) = 0
 item_of (Point x y c) = 0
 item_of (End c) = 0
-item_of (Refused code item field c) = item
+item_of (Refused reason item field c) = item
 
 abbrev pub position_of : Step → ℕ
 position_of (Geometry kind count c) = 0
 position_of (Ring count c) = 0
 position_of (Point x y c) = 0
 position_of (End c) = 0
-position_of (Refused code item field c) = field
+position_of (Refused reason item field c) = field
 
 -- A refusal at a field names the member of the place and tells where the field begins, and the next place is the same place, where a step answers the
 -- same again.
-abbrev pub refusal : ℕ → ℕ → Cursor → Step
-refusal code field c = Refused code c.member field c
+abbrev pub refusal : Reason → ℕ → Cursor → Step
+refusal reason field c = Refused reason c.member field c
 
--- What follows where the test of a field holds, else a refusal; and what follows where nothing is wrong with it, else a refusal with the code of what is.
-abbrev pub needing : Bool → ℕ → ℕ → Cursor → Step → Step
-needing test code field c next = cond test next (refusal code field c)
+-- What follows where the test of a field holds, else a refusal; and what follows where nothing is wrong with it, else a refusal for what is.
+abbrev pub needing : Bool → Reason → ℕ → Cursor → Step → Step
+needing test reason field c next = cond test next (refusal reason field c)
 
-abbrev pub unless : ℕ → ℕ → Cursor → Step → Step
-unless code field c next = cond (eqb code 0) next (refusal code field c)
+abbrev pub unless : Option Reason → ℕ → Cursor → Step → Step
+unless None field c next = next
+unless (Some reason) field c next = refusal reason field c
 
 -- Which geometry stands at a place.
 unfoldable pub slot_of : Cursor → Slot
@@ -84,15 +88,18 @@ renewed c = cond (complete c && ltb 0 c.members) (header_to_come true (polygons_
 
 -- ---- a geometry's header: byte order, type, count
 -- The 65th polygon under a member: 4. A collection at depth 5: 8.
-unfoldable pub crowded : Cursor → ℕ
+unfoldable pub crowded : Cursor → Option Reason
 crowded c = crowded_at c.polygons
 
-unfoldable pub deep : Cursor → ℕ
+unfoldable pub deep : Cursor → Option Reason
 deep c = deep_at c.fourth
 
--- What is wrong with a type at a place: 0 where it is allowed.
+-- What is wrong with a type at a place: nothing where it is allowed; and its code, which is 0 there.
+abbrev pub kind_reason : Slot → Cursor → ℕ → Option Reason
+kind_reason slot c kind = fault_at slot (crowded c) (deep c) kind
+
 unfoldable pub kind_fault : Slot → Cursor → ℕ → ℕ
-kind_fault slot c kind = fault_at slot (crowded c) (deep c) kind
+kind_fault slot c kind = code_told (kind_reason slot c kind)
 
 -- The count is within its limits: members of the sheet, at most so many; triangles, rings of a table piece; and else rings, parts or members.
 unfoldable pub count_fits : ℕ → Slot → ℕ → Bool
@@ -146,12 +153,12 @@ geometry_at s c =
     let little : Bool = eqb order 1 in
     let kind : ℕ = word_at little s (c.at + 1) in
     let count : ℕ = word_at little s (c.at + 5) in
-    needing (remains s c.at 1) 1 c.at c
-    (needing (ltb order 2) 2 c.at c
-    (needing (remains s c.at 5) 1 (c.at + 1) c
-    (unless (kind_fault (slot_of c) c kind) (c.at + 1) c
-    (needing (remains s c.at 9) 1 (c.at + 5) c
-    (needing (count_fits c.limit (slot_of c) count) 4 (c.at + 5) c
+    needing (remains s c.at 1) Short c.at c
+    (needing (ltb order 2) ByteOrder c.at c
+    (needing (remains s c.at 5) Short (c.at + 1) c
+    (unless (kind_reason (slot_of c) c kind) (c.at + 1) c
+    (needing (remains s c.at 9) Short (c.at + 5) c
+    (needing (count_fits c.limit (slot_of c) count) Count (c.at + 5) c
     (Geometry kind count (opened (slot_of c) c little kind count)))))))
 
 -- ---- a ring's count
@@ -166,8 +173,8 @@ with_points n c = rings_to_come (c.rings - 1) (points_to_come n (points_counted 
 unfoldable pub ring_at : List ℕ → Cursor → Step
 ring_at s c =
     let n : ℕ = word_at c.little s c.at in
-    needing (remains s c.at 4) 1 c.at c
-    (needing (ring_fits c n) 4 c.at c
+    needing (remains s c.at 4) Short c.at c
+    (needing (ring_fits c n) Count c.at c
     (Ring n (with_points n c)))
 
 -- ---- a point: two doubles, one field of 16 bytes
@@ -176,11 +183,11 @@ unfoldable pub after_point : Cursor → Cursor
 after_point c = renewed (points_to_come (c.points - 1) (moved 16 c))
 
 unfoldable pub point_at : List ℕ → Cursor → Step
-point_at s c = needing (remains s c.at 16) 1 c.at c (Point (double_at c.little s c.at) (double_at c.little s (c.at + 8)) (after_point c))
+point_at s c = needing (remains s c.at 16) Short c.at c (Point (double_at c.little s c.at) (double_at c.little s (c.at + 8)) (after_point c))
 
 -- ---- nothing more is to come: the end, or 7 at the first byte that is left; a place past the bytes answers 1
 unfoldable pub end_at : List ℕ → Cursor → Step
-end_at s c = cond (ltb c.at (length s)) (Refused 7 0 c.at c) (cond (eqb c.at (length s)) (End c) (refusal 1 c.at c))
+end_at s c = cond (ltb c.at (length s)) (Refused Behind 0 c.at c) (cond (eqb c.at (length s)) (End c) (refusal Short c.at c))
 
 -- ---- a step
 -- A point of the open ring; else a ring of the open polygon; else the end, where nothing of the sheet is to come; else a geometry's header.

@@ -5,42 +5,38 @@ ghost use Rattle.std.specs.Prelude.{◌≡◌};
 ghost use Rattle.wkb_kinds.specs.Kinds.{type_of, slot_at};
 ghost use Rattle.wkb_kinds.specs.Types.{crowded_at, deep_at, fault_at};
 
-// The kinds of geometry; their type numbers are the constants.
+use lent::Reason;
+
+// The kinds of geometry, with their type numbers.
 #[derive(Clone, Copy)]
 pub enum Kind {
-    Polygon,
-    MultiPolygon,
-    Collection,
-    Tin,
-    Triangle,
+    Polygon = 3,
+    MultiPolygon = 6,
+    Collection = 7,
+    Tin = 16,
+    Triangle = 17,
 }
 
 impl Kind {
     pub const LINE_STRING: u32 = 2;
 
-    pub const POLYGON: u32 = 3;
+    pub const POLYGON: u32 = Kind::Polygon as u32;
 
     pub const MULTI_LINE_STRING: u32 = 5;
 
-    pub const MULTI_POLYGON: u32 = 6;
+    pub const MULTI_POLYGON: u32 = Kind::MultiPolygon as u32;
 
-    pub const COLLECTION: u32 = 7;
+    pub const COLLECTION: u32 = Kind::Collection as u32;
 
-    pub const TIN: u32 = 16;
+    pub const TIN: u32 = Kind::Tin as u32;
 
-    pub const TRIANGLE: u32 = 17;
+    pub const TRIANGLE: u32 = Kind::Triangle as u32;
 
     // The kind's type number.
     pub fn number(self) -> u32
         ensures { result ≡ type_of self }
     {
-        match self {
-            Kind::Polygon => Kind::POLYGON,
-            Kind::MultiPolygon => Kind::MULTI_POLYGON,
-            Kind::Collection => Kind::COLLECTION,
-            Kind::Tin => Kind::TIN,
-            Kind::Triangle => Kind::TRIANGLE,
-        }
+        self as u32
     }
 }
 
@@ -59,51 +55,36 @@ impl Slot {
     pub fn standing(member: u32, parts: u32) -> Slot
         ensures { result ≡ slot_at member parts }
     {
-        if member == 0 {
-            return Slot::Sheet;
+        match (member, parts) {
+            (0, _) => Slot::Sheet,
+            (1, 0) => Slot::Table,
+            (1, _) => Slot::Piece,
+            (_, 0) => Slot::Member,
+            _ => Slot::Part,
         }
-        if member == 1 {
-            if 0 < parts {
-                return Slot::Piece;
-            }
-            return Slot::Table;
-        }
-        if 0 < parts {
-            return Slot::Part;
-        }
-        Slot::Member
     }
 }
 
-// What is wrong with a type here, by the polygons begun under the member and the members to come at depth 4: 0 where it is allowed.
-pub fn fault(slot: Slot, kind: u32, polygons: u32, fourth: u32) -> u32
+// The fault of a type here, by the polygons begun under the member and the members to come at depth 4; none where it is allowed. The type is any
+// number that the bytes have, so it is no Kind.
+pub fn fault(slot: Slot, kind: u32, polygons: u32, fourth: u32) -> Option<Reason>
     ensures { result ≡ fault_at slot (crowded_at polygons) (deep_at fourth) kind }
 {
-    let crowded = if polygons < 64 { 0 } else { 4 };
-    let deep = if fourth == 0 { 0 } else { 8 };
-    match slot {
-        Slot::Sheet => if kind == Kind::COLLECTION { 0 } else { 3 },
-        Slot::Table => if kind == Kind::TIN { 0 } else { 3 },
-        Slot::Piece => {
-            if kind == Kind::TRIANGLE {
-                0
-            } else if kind == Kind::POLYGON {
-                0
-            } else {
-                3
-            }
-        }
-        Slot::Part => if kind == Kind::POLYGON { crowded } else { 3 },
-        Slot::Member => {
-            if kind == Kind::POLYGON {
-                crowded
-            } else if kind == Kind::MULTI_POLYGON {
-                0
-            } else if kind == Kind::COLLECTION {
-                deep
-            } else {
-                3
-            }
-        }
+    match (slot, kind) {
+        (Slot::Sheet, Kind::COLLECTION) => None,
+        (Slot::Table, Kind::TIN) => None,
+        (Slot::Piece, Kind::TRIANGLE | Kind::POLYGON) => None,
+        (Slot::Member, Kind::MULTI_POLYGON) => None,
+        (Slot::Part | Slot::Member, Kind::POLYGON) => if polygons < 64 {
+            None
+        } else {
+            Some(Reason::Count)
+        },
+        (Slot::Member, Kind::COLLECTION) => if fourth == 0 {
+            None
+        } else {
+            Some(Reason::Deep)
+        },
+        _ => Some(Reason::Kind),
     }
 }

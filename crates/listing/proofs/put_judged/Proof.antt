@@ -14,7 +14,7 @@ use Rattle.sheet_form.specs.Numbers.{members}
 use Rattle.judged.specs.Judged.{Judged}
 use Rattle.judged.specs.Held.{JudgedHeld}
 use Rattle.judged.proofs.Standing.{few, pairs, polygons_at, table_in}
-use Rattle.listing_lines.specs.Printing.{Figures, lines_by}
+use Rattle.listing_lines.specs.Printing.{Figures, lines_by, told}
 use Rattle.listing.specs.Held.{AreasOf}
 use Rattle.listing.specs.Listing.{listing_of}
 use Rattle.listing.proofs.Sheet.{figures, listing_is}
@@ -94,7 +94,7 @@ figures_are : (c : tie.After-repair-done) (x y : List ℕ) → x ≡ owners c �
 figures_are c x y e f = let p = (start (laid c)).requires.0 in rw (e, f) (figures p.1 (owners c) (areas_are (laid c) p.0 p.1) (owners_many c) (doubles_are (summed (laid c)) p.0 p.1))
 
 lines_are : (c : tie.After-repair-done) (j : Judged) → Stands (start (laid c)) j → (d x y : List ℕ) → d ≡ doubles (summed (laid c)) → x ≡ owners c → y ≡ areas (laid c)
-    → let a = (start (laid c)).args in lines_by c.repair-done.result d a.sets.now x y ≡ listing_of a.way j
+    → let a = (start (laid c)).args in lines_by (told c.repair-done.result) d a.sets.now x y ≡ listing_of a.way j
 lines_are c j w d x y g e f = rw (g, e, f) (listing_is w (owners c) (areas_are (laid c) j w) (owners_many c) (doubles_are (summed (laid c)) j w) _ c.repair-done.result c.repair-done.ensures)
 
 few_lines : (c : tie.After-areas) (d : List ℕ) → d ≡ doubles c → length d ≤ 64
@@ -112,8 +112,8 @@ lay_areas_requires c κs = let w = (begun c.before.before).requires.0 in (w.0, _
 repair_requires : tie.Need-repair-done-requires
 repair_requires c κs = let w = (start c.before.before).requires.0.1 in (pairs w, length-take-le _ _ (few w), few w, table_in w)
 
-put_lines_requires : tie.Need-put_lines-requires
-put_lines_requires c κs =
+put_repaired_requires : tie.Need-put_repaired-requires
+put_repaired_requires c κs =
     let r = c.before.before.before.before.before in
     let l = laid r in (
       figures_are r _ _ (take_at (owners r) _ _ (owners_many r)) (take_at (areas l) _ _ (areas_many l)),
@@ -123,7 +123,7 @@ put_lines_requires c κs =
 
 returns : tie.Need-returns
 returns c =
-    let p = c.put_lines in
+    let p = c.put_repaired in
     let r = c.before.before.before.before.before.before.before.before in
     let l = laid r in (
       p.ensures.0,
@@ -156,6 +156,6 @@ put_judged_spec =
     (λ c. sym (length-take-le _ _ (owners_room c.before.before.before.before _)))
     (λ c. areas_room (laid c.before.before.before.before) _)
     (λ c. sym (length-take-le _ _ (areas_room (laid c.before.before.before.before.before) _)))
-    put_lines_requires
+    put_repaired_requires
     (λ c. search rules)
     returns)

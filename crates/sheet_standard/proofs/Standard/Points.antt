@@ -11,7 +11,7 @@ use lib.ListN.{length}
 use Rattle.plane.specs.Points.{Point}
 use Rattle.plane.specs.Corners.{millimetres}
 use Rattle.sheet_coordinate.specs.Coordinate.{coordinate_of}
-use Rattle.sheet_coordinate.specs.declared.Coordinate.TheVariants.{Whole}
+use Rattle.std.specs.Prelude.{Some}
 use Rattle.wkb.specs.declared.Cursor.{Cursor}
 use Rattle.wkb.specs.Places.{moved, points_to_come}
 use Rattle.wkb.specs.Standard.{Pair, encode_point, encode_ring}
@@ -31,7 +31,7 @@ abbrev pub passed : Cursor → Cursor
 passed c = points_to_come (c.points - 1) (moved 16 c)
 
 -- The number of a pattern that is read as a coordinate.
-number_is : (pattern h : ℕ) → coordinate_of (of_bits binary64 pattern) ≡ Whole h → number_of pattern ≡ millimetres h
+number_is : (pattern h : ℕ) → coordinate_of (of_bits binary64 pattern) ≡ Some h → number_of pattern ≡ millimetres h
 unfolding number_of
 number_is pattern h e = rw e refl
 

@@ -12,14 +12,15 @@ use lib.Ieee.{binary64, of_bits}
 use lib.ListN.{length, drop, get_or}
 use Rattle.whole.proofs.Tests.{by_equal}
 use Rattle.sheet_coordinate.specs.Coordinate.{coordinate_of}
-use Rattle.sheet_coordinate.specs.declared.Coordinate.{Coordinate}
-use Rattle.sheet_coordinate.specs.declared.Coordinate.TheVariants.{Whole, Not}
+use Rattle.std.specs.Prelude.{Option, Some, None}
 use Rattle.wkb.specs.declared.Cursor.{Cursor}
 use Rattle.wkb_kinds.specs.declared.Slot.{Slot}
 use Rattle.wkb.specs.declared.Step.{Step}
 use Rattle.lent_little.specs.Ordered.{number_of, bytes_of, field, remains, word_at, double_at}
 use Rattle.wkb.specs.Standard.{Pair, order, encode_point}
-use Rattle.wkb.specs.Steps.{slot_of, complete, kind_fault, count_fits, opened, geometry_at, ring_fits, with_points, ring_at, after_point, point_at, end_at, step_at}
+use Rattle.lent.proofs.Refusals.{no_success}
+use Rattle.wkb.proofs.Reasons.{by_fault, allowed_code, code_allowed}
+use Rattle.wkb.specs.Steps.{slot_of, complete, kind_reason, kind_fault, count_fits, opened, geometry_at, ring_fits, with_points, ring_at, after_point, point_at, end_at, step_at}
 use Rattle.wkb.specs.Faults.{EndDue}
 use Rattle.wkb.proofs.Due.{at_point, at_ring, at_end, at_header}
 use Rattle.sheet.specs.Reading.{Taken, Reading, Turn, on, over, opening, ringing, noted, pointing, judged, taken, turn}
@@ -65,7 +66,7 @@ closed_then n x y x' y' e h = go (eqb x x') (eqb y y') refl refl (rw (eq-eqb n 1
     go false q e f g = let z : ◌≡◌ {A = ℕ} 0 1 = cc in absurd (omega arith)
 
 pub point_goes : (s : List ℕ) (c : Cursor) (b : Taken) (p : Pair) (rest : List ℕ) (x y : ℕ) → 0 < c.points → Points s c.at c.little p rest
-    → coordinate_of (of_bits binary64 p.x) ≡ Whole x → coordinate_of (of_bits binary64 p.y) ≡ Whole y
+    → coordinate_of (of_bits binary64 p.x) ≡ Some x → coordinate_of (of_bits binary64 p.y) ≡ Some y
     → (c.points ≡ 1 → (x ≡ (noted x y b).x) × (y ≡ (noted x y b).y)) → reading s c b ≡ reading s (after_point c) (pointing c x y b)
 unfolding point_at taken judged double_at
 point_goes s c b p rest x y h r ex ey closed =
@@ -79,8 +80,8 @@ pub record PointRead (s : List ℕ) (c : Cursor) (b : Taken) : Type 0 where
   pub bytes : drop c.at s ≡ encode_point c.little p ++ drop (c.at + 16) s
   pub x_eight : p.x < 2 ^ 64
   pub y_eight : p.y < 2 ^ 64
-  pub x_is : coordinate_of (of_bits binary64 p.x) ≡ Whole x
-  pub y_is : coordinate_of (of_bits binary64 p.y) ≡ Whole y
+  pub x_is : coordinate_of (of_bits binary64 p.x) ≡ Some x
+  pub y_is : coordinate_of (of_bits binary64 p.y) ≡ Some y
   pub closed : c.points ≡ 1 → (x ≡ (noted x y b).x) × (y ≡ (noted x y b).y)
   pub on_with : (reading s (after_point c) (pointing c x y b)).code ≡ 0
 
@@ -95,11 +96,11 @@ point_back s c b bytes h code =
     X : Pair
     X = record { x = number_of c.little (field s c.at 8); y = number_of c.little (field s (c.at + 8) 8) }
 
-    judge : remains s c.at 16 ≡ true → (u v : Coordinate) → coordinate_of (of_bits binary64 X.x) ≡ u → coordinate_of (of_bits binary64 X.y) ≡ v
+    judge : remains s c.at 16 ≡ true → (u v : Option ℕ) → coordinate_of (of_bits binary64 X.x) ≡ u → coordinate_of (of_bits binary64 X.y) ≡ v
         → (leads s (judged c (after_point c) b u v)).code ≡ 0 → PointRead s c b
-    judge e Not v p q k = absurd (omega arith)
-    judge e (Whole x) Not p q k = absurd (omega arith)
-    judge e (Whole x) (Whole y) p q k =
+    judge e None v p q k = absurd (omega arith)
+    judge e (Some x) None p q k = absurd (omega arith)
+    judge e (Some x) (Some y) p q k =
         by_equal (λ (t : Turn). (leads s t).code ≡ 0 → PointRead s c b) (eqb c.points 1 && not (eqb x (noted x y b).x && eqb y (noted x y b).y)) _ _
         (λ f k. absurd (omega arith))
         (λ f k.
@@ -180,7 +181,7 @@ geometry_goes s c b slot little kind n rest a e h f g =
       said_order (get_or s c.at 0) little h.first,
       h.kind_is,
       h.count_is,
-      f,
+      code_allowed slot c kind f,
       g,
       le-leb (c.at + 1) (length s) (omega (arith, h.nine)),
       lt-ltb (get_or s c.at 0) 2 (below little h.first),
@@ -213,7 +214,7 @@ geometry_back s c b bytes a code =
     by_equal P (remains s c.at 1) _ _
     (λ e1. by_equal P (ltb (get_or s c.at 0) 2) _ _
     (λ e2. by_equal P (remains s c.at 5) _ _
-    (λ e5. by_equal P (eqb (kind_fault (slot_of c) c kind) 0) _ _
+    (λ e5. by_fault P (kind_reason (slot_of c) c kind) _ _ _
     (λ e0. by_equal P (remains s c.at 9) _ _
     (λ e9. by_equal P (count_fits c.limit (slot_of c) n) _ _
     (λ f k.
@@ -224,13 +225,13 @@ geometry_back s c b bytes a code =
       n = n;
       nine = l;
       bytes = headed s c.at little bytes l (sym (order_said (get_or s c.at 0) (ltb-true (get_or s c.at 0) 2 e2)));
-      allowed = eqb-true (kind_fault (slot_of c) c kind) 0 e0;
+      allowed = allowed_code (slot_of c) c kind e0;
       counts = f;
       on_with = k;
     })
     (λ f k. absurd (omega arith)))
     (λ f k. absurd (omega arith)))
-    (λ f k. absurd (eqb-false (kind_fault (slot_of c) c kind) 0 f k)))
+    (λ reason f k. absurd (no_success reason k)))
     (λ f k. absurd (omega arith)))
     (λ f k. absurd (omega arith)))
     (λ f k. absurd (omega arith))

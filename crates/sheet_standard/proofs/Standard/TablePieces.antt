@@ -9,6 +9,7 @@ use borrow.Author.Tests.{eq-eqb, ne_eqb, eqb-true, lt-ltb}
 use lib.Dec.{eqb}
 use lib.IntN.{ℤ, pos}
 use lib.ListN.{length, drop}
+use Rattle.std.specs.Prelude.{None, Some}
 use Rattle.whole.specs.Sums.{All}
 use Rattle.plane.specs.Corners.{millimetres}
 use Rattle.wkb.specs.declared.Cursor.{Cursor}
@@ -18,6 +19,8 @@ use Rattle.wkb_kinds.specs.declared.Kind.{Kind}
 use Rattle.wkb_kinds.specs.declared.Kind.TheVariants.{Polygon, MultiPolygon, Collection, Tin, Triangle as Three}
 use Rattle.wkb_kinds.specs.Kinds.{type_of}
 use Rattle.wkb.specs.Standard.{Pair, Geometry, ringed, holding, Geometries, ◌then◌, count, encode_ring, encode, encode_all}
+use Rattle.lent.specs.declared.Reason.TheVariants.{Kind as NotHere}
+use Rattle.wkb_kinds.specs.Types.{code_told}
 use Rattle.wkb.specs.Steps.{slot_of, kind_fault, count_fits, with_rings, fewer_parts, opened}
 use Rattle.wkb.proofs.Complete.{not_complete}
 use Rattle.sheet_form.specs.Numbers.{triangle_numbers}
@@ -68,7 +71,7 @@ allowed_piece : (c : Cursor) (k : ℕ) → kind_fault Piece c k ≡ 0 → (kind 
 unfolding kind_fault
 allowed_piece c k = go (eqb k 17) (eqb k 3) refl refl
   where
-    go : (p q : Bool) → eqb k 17 ≡ p → eqb k 3 ≡ q → ◌≡◌ {A = ℕ} (cond (p || q) 0 3) 0 → (kind : Kind) × (type_of kind ≡ k) × ((kind ≡ Three) ⊎ (kind ≡ Polygon))
+    go : (p q : Bool) → eqb k 17 ≡ p → eqb k 3 ≡ q → code_told (cond (p || q) None (Some NotHere)) ≡ 0 → (kind : Kind) × (type_of kind ≡ k) × ((kind ≡ Three) ⊎ (kind ≡ Polygon))
     go true q ep eq h = (Three, sym (eqb-true k 17 ep), inl refl)
     go false true ep eq h = (Polygon, sym (eqb-true k 3 eq), inr refl)
     go false false ep eq h = absurd (omega arith)

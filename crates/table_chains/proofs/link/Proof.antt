@@ -1,10 +1,9 @@
 -- `table_chains::link` meets its contract, by the two stores (Linking). Assumes nothing.
-use mathlib.Core.Path.{◌≡◌, sym, ap, subst}
-use Prim.Native.Nat.{ℕ, ◌+◌, ◌*◌, ◌%◌}
+use mathlib.Core.Path.{sym, subst}
+use Prim.Native.Nat.{◌+◌, ◌*◌, ◌%◌}
 use native.Mathlib.Omega.{arith}
 use borrow.Author.Rules.{rules}
 use lib.ListN.{get_or, set}
-use Rattle.table_sides.specs.Chains.{head_in}
 use Rattle.table_chains.specs.Linking.{Hung}
 use Rattle.table_chains.proofs.Linking.{hung}
 use Rattle.table_chains.proofs.link.Statement.{statement}

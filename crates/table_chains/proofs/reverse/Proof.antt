@@ -1,13 +1,13 @@
 -- `table_chains::reverse` meets its contract: where no code stands twice, a side with the code is the only one, wherever it was looked for. Assumes nothing.
 use mathlib.Core.Path.{◌≡◌, refl, sym, ◌∙◌, subst}
 use mathlib.Core.List.{List}
-use Prim.Native.Nat.{ℕ, zero, suc, ◌≤◌, ◌<◌}
+use Prim.Native.Nat.{ℕ, zero, suc, ◌<◌}
 use native.Mathlib.Omega.{arith}
 use borrow.Author.Rules.{rules}
 use lib.ListN.{length, get_or}
 use Rattle.whole_order.specs.Ascending.{Distinct}
 use Rattle.table_sides.specs.Numbered.{number_in}
-use Rattle.table_sides.specs.Chains.{Last, ChainedTo}
+use Rattle.table_sides.specs.Chains.{ChainedTo}
 use Rattle.table_sides.proofs.Chains.{last_number}
 use Rattle.table_chains.proofs.Linking.{linked_last}
 use Rattle.table_chains.proofs.reverse.Statement.{statement}

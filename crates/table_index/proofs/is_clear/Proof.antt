@@ -1,8 +1,8 @@
 -- `table_index::is_clear` meets its contract: the next stop is none exactly if no corner is strictly between. Assumes nothing.
-use mathlib.Core.Path.{◌≡◌, refl, sym, ◌∙◌, ap, subst}
+use mathlib.Core.Path.{◌≡◌, refl, subst}
 use mathlib.Core.Bool.{Bool, true, false}
 use mathlib.Core.List.{List}
-use Prim.Native.Nat.{ℕ, ◌≤◌, ◌<◌}
+use Prim.Native.Nat.{ℕ, ◌<◌}
 use native.Mathlib.Omega.{arith}
 use borrow.Author.Rules.{rules}
 use borrow.Author.Tests.{leb-true, leb-false}
@@ -11,7 +11,7 @@ use lib.ListN.{length, get_or}
 use Rattle.whole.specs.Tests.{Told}
 use Rattle.whole.proofs.Sums.{all_at}
 use Rattle.plane.specs.Keys.{Key}
-use Rattle.whole_order.specs.Ascending.{Ascending, place_of}
+use Rattle.whole_order.specs.Ascending.{Ascending}
 use Rattle.whole_order.proofs.Ascending.{ascending_below, place_of_lem}
 use Rattle.table_count.specs.Counting.{NextStop, ClearOf}
 use Rattle.table_count.proofs.Walked.{none_before, NoneBefore, end_clear, corner_among}

@@ -1,5 +1,5 @@
 -- `table_index::note` meets its contract: what is strictly inside a side is strictly inside its reverse. Assumes nothing.
-use mathlib.Core.Path.{◌≡◌, refl, ap}
+use mathlib.Core.Path.{refl, ap}
 use mathlib.Core.Logic.{inl, inr}
 use mathlib.Core.Bool.{not}
 use mathlib.Core.List.{List}

@@ -1,0 +1,11 @@
+use Rattle.std.proofs.Common.{◌-◌, length}
+use Rattle.sheet.specs.Rings.{Reaches}
+use Rattle.sheet.proofs.points.Given as goal
+
+-- The steps from the beginning have reached where the loop stands.
+abbrev pub invariant-loop-reached : goal.invariant-loop-reached
+invariant-loop-reached l = Reaches l.s l.fn.from l.fn.had l.fn.numbers l.reached l.numbers
+
+-- What is left of the bytes.
+abbrev pub decreases-loop-reached : goal.decreases-loop-reached
+decreases-loop-reached l = length l.s - l.reached.place.at
