@@ -55,7 +55,7 @@ fn in_range(b: u32) -> bool
 fn pattern(b: u32) -> u64
     ensures { result ≡ pattern_of (to_z w32 b) }
 {
-    lent_fields::pattern(f64::from(b.cast_signed()))
+    lent_fields::pattern(i64::from(b.cast_signed()) as f64)
 }
 
 // Writes a geometry's header, little-endian.

@@ -36,7 +36,13 @@ impl Kind {
     pub fn number(self) -> u32
         ensures { result ≡ type_of self }
     {
-        self as u32
+        match self {
+            Kind::Polygon => Kind::POLYGON,
+            Kind::MultiPolygon => Kind::MULTI_POLYGON,
+            Kind::Collection => Kind::COLLECTION,
+            Kind::Tin => Kind::TIN,
+            Kind::Triangle => Kind::TRIANGLE,
+        }
     }
 }
 

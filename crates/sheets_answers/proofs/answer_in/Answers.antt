@@ -32,8 +32,8 @@ go_on-requires c = let (j, e, t, w) = c.in_ok-n.ensures in (j, w)
 pub returns : goal.returns
 returns c =
     let a = c.args in
-    let (j, e, t, w) = c.in_ok-n.ensures in
-    subst (λ o. Answered o a.out.now (number_of c.go_on.result) c.go_on.new.out) (sym (ap (λ r. and_then r (goes_on a.asked.way a.asked.wanted)) e)) (c.go_on.ensures j w)
+    let (j, judged, t, w) = c.in_ok-n.ensures in
+    subst (λ o. Answered o a.out.now (number_of c.go_on.result) c.go_on.new.out) (sym (ap (λ r. and_then r (goes_on a.asked.way a.asked.wanted)) judged)) (c.go_on.ensures j w)
 
 pub returns-in_err-n : goal.returns-in_err-n
 returns-in_err-n c =
